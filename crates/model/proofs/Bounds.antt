@@ -1,0 +1,205 @@
+-- No call gives more than 13 notices or 6 events, so packing cuts nothing.
+use mathlib.Core.Path.{_≡_, refl}
+use mathlib.Core.Bool.{Bool, not, _||_, cond}
+use mathlib.Core.List.{List, [], _∷_, _++_}
+use Prim.Native.Nat.{ℕ, _+_, _≤_}
+use native.Mathlib.Omega.{arith}
+use lib.ListN.{length, length-append}
+use lib.Dec.{eqb}
+use Rattle.units.specs.declared.Hundredths.{Hundredths}
+use Rattle.units.specs.declared.Tenths.{Tenths}
+use Rattle.model.specs.Answers.{Outcome, Stage, onlyIf, quiet, andThen, unchanged}
+use Rattle.model.specs.Refusals.{Row, unless}
+use Rattle.model.specs.Served.{serves, noticed, heats, cools, listed}
+use Rattle.model.specs.Records.{changedTo, withAttrs, withPending, setMinHeat, setMaxHeat, setMinCool, setMaxCool}
+use Rattle.model.specs.Modes.{runningState}
+use Rattle.model.specs.Limits.{inHeatLimits, inCoolLimits, clampHeatSetpoint, clampCoolSetpoint}
+use Rattle.units.specs.Units.{widened}
+use Rattle.model.specs.Attribution.{external, armedClock, servedSetpoints}
+use Rattle.model.specs.Writes.{applied, thenNoticed, coolingBeside, heatingBeside, relayNotices, sourceNotices, storeHeatingSetpoint, storeCoolingSetpoint, pullHeating, pullCooling, limitStored, raiseHeating, raiseCooling, raiseBoth, raiseSides, writeOccupiedHeatingSetpoint, writeOccupiedCoolingSetpoint, writeMinHeatSetpointLimit, writeMaxHeatSetpointLimit, writeMinCoolSetpointLimit, writeMaxCoolSetpointLimit, writeSystemMode, setControlSequenceOfOperation, raiseLowerSetpoint, armClock}
+use Rattle.model.specs.Messages.{messageTaken, modeMessage, heatingMessage, coolingMessage, limitsMessage, outOfBandMessage}
+use Rattle.model.specs.Sweep.{Taken, started, localRecorded, tellsMode, tellsTemperature, tellsCooling, tellsHeating, tellsRelays, tellsRunningMode, sameSnapshot, snapshotOf, NoticeRow, noticeTable, rowNotices, tableNotices, attributedTo, attributeLocalSetpointChange, eventsOf, takenFrom, takeEvents, sweepEvents, swept, sweep, timer, seedEvents, deadline}
+use Rattle.model.specs.Step.{step}
+use Rattle.model.specs.Laws.{Bounded}
+use Rattle.model.specs.declared.Config.{Config}
+use Rattle.model.specs.declared.Shadow.{Shadow}
+use Rattle.model.specs.declared.Shadow.the-variants.{Unseeded, Seeded}
+use Rattle.model.specs.declared.Attributed.{Attributed}
+use Rattle.model.specs.declared.Attributed.the-variants.{Unclaimed, Claimed}
+use Rattle.model.specs.declared.Event.the-variants.{SystemModeChange, LocalTemperatureChange, SetpointChange, RunningStateChange, RunningModeChange}
+use Rattle.model.specs.declared.Snapshot.{Snapshot}
+use Rattle.model.specs.declared.Moment.{Moment}
+use Rattle.model.specs.declared.Controller.{Controller}
+use Rattle.model.specs.declared.Readings.{Readings}
+use Rattle.model.specs.declared.OutOfBandMessage.{OutOfBandMessage}
+use Rattle.model.specs.declared.OutOfBandMessage.the-variants.{LocalTemperature, RunningState, Update, OccupiedHeatingSetpoint, OccupiedCoolingSetpoint, SystemMode, SetpointLimits}
+use Rattle.model.specs.declared.Call.{Call}
+use Rattle.model.specs.declared.Call.the-variants.{WriteOccupiedHeatingSetpoint, WriteOccupiedCoolingSetpoint, WriteMinHeatSetpointLimit, WriteMaxHeatSetpointLimit, WriteMinCoolSetpointLimit, WriteMaxCoolSetpointLimit, WriteSystemMode, SetControlSequenceOfOperation, RaiseLowerSetpoint, ArmClock, OutOfBand, SeedEvents, Sweep, Timer, Deadline}
+use Rattle.model.proofs.Logic.{length-onlyIf, by-cond, by-unless}
+
+-- at most n of them
+abbrev AtMost : {A : Type 0} → ℕ → List A → Type 0
+AtMost n l = length l ≤ n
+
+abbrev Within : Outcome → Type 0
+Within o = AtMost 13 (o .notices) × AtMost 6 (o .events)
+
+quiet-bounded : (n : ℕ) (r : Controller) → Within (quiet n r)
+quiet-bounded n r = (omega arith, omega arith)
+
+guarded : (l : List Row) (r : Controller) (o : Outcome) → Within o → Within (unless l r o)
+guarded l r o h = by-unless Within l r o (λ n. quiet-bounded n r) (λ e. h)
+
+one-if : {A : Type 0} (t : Bool) (a : A) → AtMost 1 (onlyIf t (a ∷ []))
+one-if t a = omega (arith, length-onlyIf t (a ∷ []))
+
+module _ (cfg : Config) (d : Readings) where
+  notice-most : (code : ℕ) → AtMost 1 (noticed cfg code)
+  notice-most code = one-if (serves cfg code) code
+
+  source-most : AtMost 3 (sourceNotices cfg)
+  unfolding sourceNotices
+  source-most = simp length-append (omega (arith, notice-most 0x30, notice-most 0x31, notice-most 0x32))
+
+  -- a store: the setpoint with its source, and the other setpoint
+  stored-most : (t u : Bool) (code other : ℕ) → AtMost 5 (onlyIf t (noticed cfg code ++ sourceNotices cfg) ++ onlyIf u (noticed cfg other))
+  stored-most t u code other =
+      let l = noticed cfg code ++ sourceNotices cfg in
+      simp length-append (omega (arith, length-onlyIf t l, length-append (noticed cfg code) (sourceNotices cfg), length-onlyIf u (noticed cfg other), notice-most code, notice-most other, source-most))
+
+  heating-most : (source : ℕ) (v : Hundredths) (r : Controller) → AtMost 5 (storeHeatingSetpoint cfg d source v r .notices)
+  unfolding storeHeatingSetpoint
+  heating-most source v r =
+      let s = r .attrs .settings in stored-most (changedTo (s .heating) v) (changedTo (s .cooling) (coolingBeside cfg s v)) 0x12 0x11
+
+  cooling-most : (source : ℕ) (v : Hundredths) (r : Controller) → AtMost 5 (storeCoolingSetpoint cfg d source v r .notices)
+  unfolding storeCoolingSetpoint
+  cooling-most source v r =
+      let s = r .attrs .settings in stored-most (changedTo (s .cooling) v) (changedTo (s .heating) (heatingBeside cfg s v)) 0x11 0x12
+
+  relay-most : AtMost 2 (relayNotices cfg d)
+  unfolding relayNotices
+  relay-most =
+      let l = noticed cfg 0x29 ++ noticed cfg 0x1E in
+      omega (arith, length-onlyIf (not (eqb (runningState cfg (d .relaysbefore)) (runningState cfg (d .relaysafter)))) l, length-append (noticed cfg 0x29) (noticed cfg 0x1E), notice-most 0x29, notice-most 0x1E)
+
+  applied-bounded : (s : Stage) → AtMost 11 (s .notices) → Within (applied cfg d s)
+  unfolding applied
+  applied-bounded s h = (simp length-append (omega (arith, relay-most)), omega arith)
+
+  pick-most : (n : ℕ) (t : Bool) (x y : Stage) → AtMost n (x .notices) → AtMost n (y .notices) → AtMost n (cond t x y .notices)
+  pick-most n t x y h g = by-cond (λ (s : Stage). AtMost n (s .notices)) t x y (λ e. h) (λ e. g)
+
+  pull-heat-most : (q : Controller) → AtMost 5 (pullHeating cfg d q .notices)
+  unfolding pullHeating
+  pull-heat-most q =
+      let s = q .attrs .settings in
+      let v = clampHeatSetpoint cfg s (widened (s .heating)) in
+      pick-most 5 (inHeatLimits cfg s (s .heating)) (unchanged q) (storeHeatingSetpoint cfg d external v q) (omega arith) (heating-most external v q)
+
+  pull-cool-most : (q : Controller) → AtMost 5 (pullCooling cfg d q .notices)
+  unfolding pullCooling
+  pull-cool-most q =
+      let s = q .attrs .settings in
+      let v = clampCoolSetpoint cfg s (widened (s .cooling)) in
+      pick-most 5 (inCoolLimits cfg s (s .cooling)) (unchanged q) (storeCoolingSetpoint cfg d external v q) (omega arith) (cooling-most external v q)
+
+  -- a limit, and what it pulls
+  limit-bounded : (r : Controller) (code : ℕ) (f : Controller → Stage) → AtMost 5 (f r .notices) → Within (applied cfg d (andThen (record { rec = r; notices = noticed cfg code }) f))
+  limit-bounded r code f h = applied-bounded _ (simp length-append (omega (arith, notice-most code)))
+
+  raise-heat-most : (a : Tenths) (q : Controller) → AtMost 5 (raiseHeating cfg d a q .notices)
+  unfolding raiseHeating
+  raise-heat-most a q = heating-most external _ q
+
+  raise-cool-most : (a : Tenths) (q : Controller) → AtMost 5 (raiseCooling cfg d a q .notices)
+  unfolding raiseCooling
+  raise-cool-most a q = cooling-most external _ q
+
+  both-most : (a : Tenths) (r : Controller) → AtMost 10 (raiseBoth cfg d a r .notices)
+  unfolding raiseBoth
+  both-most a r =
+      let x = cond (heats cfg) (raiseHeating cfg d a r) (unchanged r) in
+      let q = x .rec in
+      let h = pick-most 5 (heats cfg) (raiseHeating cfg d a r) (unchanged r) (raise-heat-most a r) (omega arith) in
+      let c = pick-most 5 (cools cfg) (raiseCooling cfg d a q) (unchanged q) (raise-cool-most a q) (omega arith) in
+      simp length-append (omega arith)
+
+  sides-most : (mode : ℕ) (a : Tenths) (r : Controller) → AtMost 10 (raiseSides cfg d mode a r .notices)
+  unfolding raiseSides
+  sides-most mode a r =
+      pick-most 10 (eqb mode 0) _ _ (let h = raise-heat-most a r in omega arith) (pick-most 10 (eqb mode 1) _ _ (let h = raise-cool-most a r in omega arith) (both-most a r))
+
+  -- a row of the table gives at most its code
+  row-most : (p : ℕ) (w : NoticeRow) → AtMost 1 (rowNotices cfg p w)
+  unfolding rowNotices
+  row-most p w = omega (arith, length-onlyIf (listed p (w .bit)) (noticed cfg (w .code)), notice-most (w .code))
+
+  table-most : (p : ℕ) (ws : List NoticeRow) → AtMost (length ws) (tableNotices cfg p ws)
+  unfolding tableNotices
+  table-most p [] = omega arith
+  table-most p (w ∷ ws) = let h = table-most p ws in simp length-append (omega (arith, row-most p w))
+
+  local-most : (r : Controller) (a b : Attributed) → AtMost 3 (attributedTo cfg d r a b .notices)
+  local-most r Unclaimed Unclaimed = omega arith
+  local-most r (Claimed h c) Unclaimed = omega arith
+  local-most r Unclaimed (Claimed h c) = omega arith
+  local-most r (Claimed oldh oldc) (Claimed h c) =
+      pick-most 3 (changedTo oldh h || changedTo oldc c) (localRecorded cfg d r oldh oldc h c) (unchanged r) source-most (omega arith)
+
+  events-most : (old new : Snapshot) (last : Moment) (now : ℕ) → AtMost 6 (eventsOf cfg old new last now)
+  unfolding eventsOf
+  events-most old new last now =
+      simp length-append
+      (omega (arith, one-if (tellsMode cfg old new) (SystemModeChange (old .mode) (new .mode)), one-if (tellsTemperature cfg old new last now) (LocalTemperatureChange (new .temperature)), one-if (tellsCooling cfg old new) (SetpointChange 3 (old .cooling) (new .cooling)), one-if (tellsHeating cfg old new) (SetpointChange 4 (old .heating) (new .heating)), one-if (tellsRelays cfg old new) (RunningStateChange (old .relays) (new .relays)), one-if (tellsRunningMode cfg old new) (RunningModeChange (old .runningmode) (new .runningmode))))
+
+  from-most : (r : Controller) (s : Shadow) → AtMost 6 (takenFrom cfg d r s .events)
+  from-most r Unseeded = omega arith
+  from-most r (Seeded old) =
+      by-cond (λ (t : Taken). AtMost 6 (t .events)) (sameSnapshot old (snapshotOf cfg d r)) _ _ (λ e. omega arith) (λ e. events-most old (snapshotOf cfg d r) (r .events .last) (d .clock))
+
+  taken-most : (r : Controller) → AtMost 6 (takeEvents cfg d r .events)
+  unfolding takeEvents
+  taken-most r = from-most r (r .events .shadow)
+
+  swept-bounded : (r : Controller) → Within (swept cfg d r)
+  unfolding swept sweepEvents attributeLocalSetpointChange
+  swept-bounded r =
+      let t = table-most (r .pending) noticeTable in
+      let q = armedClock cfg d (withPending r 0) in
+      let l = local-most q (q .change .attributed) (servedSetpoints cfg (q .attrs .settings)) in
+      by-cond Within (eqb (r .pending) 0) _ _ (λ e. quiet-bounded 0 r)
+      (λ e. by-cond Within (listed (r .pending) 9) _ _ (λ f. (simp length-append (omega arith), taken-most _)) (λ f. (omega arith, omega arith)))
+
+  message-bounded : (r : Controller) (m : OutOfBandMessage) → Within (messageTaken cfg r m)
+  unfolding heatingMessage coolingMessage modeMessage limitsMessage
+  message-bounded r LocalTemperature = (omega arith, omega arith)
+  message-bounded r RunningState = (omega arith, omega arith)
+  message-bounded r Update = (omega arith, omega arith)
+  message-bounded r (OccupiedHeatingSetpoint v) = (omega arith, omega arith)
+  message-bounded r (OccupiedCoolingSetpoint v) = (omega arith, omega arith)
+  message-bounded r (SystemMode v) = guarded _ r _ (omega arith, omega arith)
+  message-bounded r (SetpointLimits a b c e) = (omega arith, omega arith)
+
+  mode-bounded : (s : Stage) → AtMost 10 (s .notices) → Within (thenNoticed cfg 0x1C (applied cfg d s))
+  unfolding applied
+  mode-bounded s h = (simp length-append (omega (arith, relay-most, notice-most 0x1C)), omega arith)
+
+pub bounded : Bounded
+unfolding step writeOccupiedHeatingSetpoint writeOccupiedCoolingSetpoint writeMinHeatSetpointLimit writeMaxHeatSetpointLimit writeMinCoolSetpointLimit writeMaxCoolSetpointLimit writeSystemMode setControlSequenceOfOperation raiseLowerSetpoint armClock outOfBandMessage seedEvents sweep timer deadline
+bounded cfg r d (WriteOccupiedHeatingSetpoint v) = guarded _ r _ (applied-bounded cfg d _ (let m = heating-most cfg d external v r in omega arith))
+bounded cfg r d (WriteOccupiedCoolingSetpoint v) = guarded _ r _ (applied-bounded cfg d _ (let m = cooling-most cfg d external v r in omega arith))
+bounded cfg r d (WriteMinHeatSetpointLimit v) = guarded _ r _ (limit-bounded cfg d (withAttrs r (setMinHeat (r .attrs) v)) 0x15 (pullHeating cfg d) (pull-heat-most cfg d _))
+bounded cfg r d (WriteMaxHeatSetpointLimit v) = guarded _ r _ (limit-bounded cfg d (withAttrs r (setMaxHeat (r .attrs) v)) 0x16 (pullHeating cfg d) (pull-heat-most cfg d _))
+bounded cfg r d (WriteMinCoolSetpointLimit v) = guarded _ r _ (limit-bounded cfg d (withAttrs r (setMinCool (r .attrs) v)) 0x17 (pullCooling cfg d) (pull-cool-most cfg d _))
+bounded cfg r d (WriteMaxCoolSetpointLimit v) = guarded _ r _ (limit-bounded cfg d (withAttrs r (setMaxCool (r .attrs) v)) 0x18 (pullCooling cfg d) (pull-cool-most cfg d _))
+bounded cfg r d (WriteSystemMode v) = guarded _ r _ (mode-bounded cfg d _ (omega arith))
+bounded cfg r d (SetControlSequenceOfOperation v) = guarded _ r _ (quiet-bounded 0 r)
+bounded cfg r d (RaiseLowerSetpoint mode amount) =
+    guarded _ r _ (guarded _ _ _ (applied-bounded cfg d _ (let m = sides-most cfg d mode amount (armedClock cfg d r) in omega arith)))
+bounded cfg r d ArmClock = guarded _ r _ (quiet-bounded 0 (armedClock cfg d r))
+bounded cfg r d (OutOfBand m) = guarded _ r _ (message-bounded cfg d r m)
+bounded cfg r d SeedEvents = guarded _ r _ (quiet-bounded 0 (started cfg d r))
+bounded cfg r d Sweep = guarded _ r _ (swept-bounded cfg d r)
+bounded cfg r d Timer = guarded _ r _ (omega arith, taken-most cfg d r)
+bounded cfg r d Deadline = guarded _ r _ (omega arith, omega arith)

@@ -1,0 +1,9 @@
+pub mod Cases
+pub mod Packing
+pub mod Logic
+pub mod Bounds
+pub mod Refused
+pub mod Valid
+pub mod Chain
+pub mod Repair
+pub mod Kept

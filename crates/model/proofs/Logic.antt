@@ -1,0 +1,97 @@
+-- Small facts of tests, lists and refusals, by which the laws are put together.
+use mathlib.Core.Path.{_≡_, refl, sym, _∙_, ap}
+use mathlib.Core.Logic.{_⊎_, inl, inr}
+use mathlib.Core.Bool.{Bool, true, false, not, _&&_, _||_, cond}
+use mathlib.Core.List.{List, [], _∷_, _++_}
+use Prim.Native.Nat.{ℕ, zero, suc, _+_, _≤_}
+use native.Mathlib.Omega.{arith}
+use lib.Dec.{eqb, ltb}
+use borrow.Author.Tests.{ltb-true, ne-eqb}
+use lib.ListN.{length}
+use Rattle.model.specs.Answers.{Outcome, onlyIf, quiet}
+use Rattle.model.specs.Refusals.{Row, firstFailing, unless, Clear, numbered}
+use Rattle.model.specs.declared.Controller.{Controller}
+
+pub both : (a b : Bool) → a && b ≡ true → (a ≡ true) × (b ≡ true)
+both true b e = (refl, e)
+both false b e = (e, cc)
+
+pub and-true : (a b : Bool) → a ≡ true → b ≡ true → a && b ≡ true
+and-true a b e f = simp (e, f)
+
+-- of `not a || b`: a implies b
+pub implied : (a b : Bool) → not a || b ≡ true → a ≡ true → b ≡ true
+implied true b e f = e
+implied false b e f = cc
+
+pub implies : (a b : Bool) → (a ≡ true → b ≡ true) → not a || b ≡ true
+implies true b f = f refl
+implies false b f = refl
+
+pub neither : (a b : Bool) → a || b ≡ false → (a ≡ false) × (b ≡ false)
+neither true b e = (e, cc)
+neither false b e = (refl, e)
+
+pub not-true : (a : Bool) → not a ≡ true → a ≡ false
+not-true true e = sym e
+not-true false e = refl
+
+pub not-false : (a : Bool) → not a ≡ false → a ≡ true
+not-false true e = refl
+not-false false e = sym e
+
+-- of `a && b` false: a rules b out
+pub not-both : (a b : Bool) → a && b ≡ false → a ≡ true → b ≡ false
+not-both true b e f = e
+not-both false b e f = cc
+
+-- a fact about a pick, from its two cases
+pub by-cond {ℓ} : {X : Type 0} (P : X → Type ℓ) (b : Bool) (x y : X) → (b ≡ true → P x) → (b ≡ false → P y) → P (cond b x y)
+by-cond P true x y f g = f refl
+by-cond P false x y f g = g refl
+
+pub cases : {X : Type 0} (b : Bool) → (b ≡ true → X) → (b ≡ false → X) → X
+cases true f g = f refl
+cases false f g = g refl
+
+-- a fact about a guarded outcome: of each refusal, and of the outcome where nothing refuses
+pub by-unless {ℓ} : (P : Outcome → Type ℓ) (ws : List Row) (r : Controller) (o : Outcome) → ((n : ℕ) → P (quiet n r)) → (Clear ws → P o) → P (unless ws r o)
+unfolding unless
+by-unless P [] r o f g = g tt
+by-unless P (w ∷ ws) r o f g =
+    by-cond P (w .cause) (quiet (w .number) r) (unless ws r o) (λ e. f (w .number)) (λ e. by-unless P ws r o f (λ c. g (e, c)))
+
+-- a first failure 0 says that no cause is there
+passed : (t : Bool) (n m : ℕ) → ltb 0 n ≡ true → cond t n m ≡ 0 → (t ≡ false) × (m ≡ 0)
+passed true n m e f = absurd (omega (arith, ltb-true 0 n e))
+passed false n m e f = (refl, f)
+
+pub clear : (ws : List Row) → numbered ws ≡ true → firstFailing ws ≡ 0 → Clear ws
+unfolding firstFailing
+clear [] e f = tt
+clear (w ∷ ws) e f =
+    let b = both (ltb 0 (w .number)) (numbered ws) e in
+    let p = passed (w .cause) (w .number) (firstFailing ws) (b .0) f in
+    (p .0, clear ws (b .1) (p .1))
+
+-- the rows of two lists
+pub clear-append : (ws vs : List Row) → Clear (ws ++ vs) → Clear ws × Clear vs
+clear-append [] vs c = (tt, c)
+clear-append (w ∷ ws) vs c = let k = clear-append ws vs (c .1) in ((c .0, k .0), k .1)
+
+-- a number of one list, or else of the next
+first-or : (t : Bool) (n a b v : ℕ) → ltb 0 n ≡ true → b ≡ cond (eqb a 0) v a → cond t n b ≡ cond (eqb (cond t n a) 0) v (cond t n a)
+first-or true n a b v e f = rw (ne-eqb n 0 (λ z. omega (arith, ltb-true 0 n e)))
+first-or false n a b v e f = f
+
+pub first-append : (ws vs : List Row) → numbered ws ≡ true → firstFailing (ws ++ vs) ≡ cond (eqb (firstFailing ws) 0) (firstFailing vs) (firstFailing ws)
+unfolding firstFailing
+first-append [] vs e = refl
+first-append (w ∷ ws) vs e =
+    let b = both (ltb 0 (w .number)) (numbered ws) e in
+    first-or (w .cause) (w .number) (firstFailing ws) (firstFailing (ws ++ vs)) (firstFailing vs) (b .0) (first-append ws vs (b .1))
+
+pub length-onlyIf : {A : Type 0} (t : Bool) (l : List A) → length (onlyIf t l) ≤ length l
+unfolding onlyIf
+length-onlyIf true l = omega arith
+length-onlyIf false l = omega arith

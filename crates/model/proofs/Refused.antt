@@ -1,0 +1,77 @@
+-- Every call is done or refused, and a refusal changes nothing but, at 23 and 25, the armed clock.
+use mathlib.Core.Path.{_≡_, refl}
+use mathlib.Core.Logic.{_⊎_, inl, inr}
+use mathlib.Core.Bool.{Bool, true, false, cond}
+use mathlib.Core.List.{List, [], _∷_}
+use Prim.Native.Nat.{ℕ}
+use lib.Dec.{ltb, eqb}
+use Rattle.model.specs.Records.{withPending}
+use Rattle.model.specs.Served.{listed}
+use Rattle.model.specs.Answers.{Outcome, quiet}
+use Rattle.model.specs.Refusals.{Row, row, unless}
+use Rattle.model.specs.Attribution.{armedClock}
+use Rattle.model.specs.Writes.{applied, namesAbsentSide, raiseSides, writeOccupiedHeatingSetpoint, writeOccupiedCoolingSetpoint, writeMinHeatSetpointLimit, writeMaxHeatSetpointLimit, writeMinCoolSetpointLimit, writeMaxCoolSetpointLimit, writeSystemMode, setControlSequenceOfOperation, raiseLowerSetpoint, armClock}
+use Rattle.model.specs.Messages.{messageTaken, heatingMessage, coolingMessage, modeMessage, limitsMessage, outOfBandMessage}
+use Rattle.model.specs.Sweep.{noticeTable, tableNotices, sweepEvents, swept, notify, sweep, timer, seedEvents, deadline}
+use Rattle.model.specs.Step.{step}
+use Rattle.model.specs.Laws.{Refused, DoneOrRefused}
+use Rattle.model.specs.declared.Config.{Config}
+use Rattle.model.specs.declared.Controller.{Controller}
+use Rattle.model.specs.declared.Readings.{Readings}
+use Rattle.model.specs.declared.OutOfBandMessage.{OutOfBandMessage}
+use Rattle.model.specs.declared.OutOfBandMessage.the-variants.{LocalTemperature, RunningState, Update, OccupiedHeatingSetpoint, OccupiedCoolingSetpoint, SystemMode, SetpointLimits}
+use Rattle.model.specs.declared.Call.{Call}
+use Rattle.model.specs.declared.Call.the-variants.{WriteOccupiedHeatingSetpoint, WriteOccupiedCoolingSetpoint, WriteMinHeatSetpointLimit, WriteMaxHeatSetpointLimit, WriteMinCoolSetpointLimit, WriteMaxCoolSetpointLimit, WriteSystemMode, SetControlSequenceOfOperation, RaiseLowerSetpoint, ArmClock, OutOfBand, SeedEvents, Sweep, Timer, Deadline}
+use Rattle.model.proofs.Logic.{by-unless}
+
+module _ (cfg : Config) (r : Controller) (d : Readings) where
+  abbrev Either : Outcome → Type 0
+  Either o = (o .number ≡ 0) ⊎ Refused cfg r d o
+
+  guarded : (l : List Row) (o : Outcome) → Either o → Either (unless l r o)
+  guarded l o h = by-unless Either l r o (λ n. inr (inl refl)) (λ e. h)
+
+  -- 25 and 23 keep the newly armed clock
+  raise-guarded : (t u : Bool) (o : Outcome) → Either o → Either (unless (row 25 t ∷ row 23 u ∷ []) (armedClock cfg d r) o)
+  unfolding unless
+  raise-guarded true u o h = inr (inr (inr refl, refl))
+  raise-guarded false true o h = inr (inr (inl refl, refl))
+  raise-guarded false false o h = h
+
+  message : (m : OutOfBandMessage) → Either (messageTaken cfg r m)
+  unfolding heatingMessage coolingMessage modeMessage limitsMessage
+  message LocalTemperature = inl refl
+  message RunningState = inl refl
+  message Update = inl refl
+  message (OccupiedHeatingSetpoint v) = inl refl
+  message (OccupiedCoolingSetpoint v) = inl refl
+  message (SystemMode v) = guarded _ _ (inl refl)
+  message (SetpointLimits a b c e) = inl refl
+
+  swept-done : swept cfg d r .number ≡ 0
+  unfolding swept sweepEvents
+  swept-done = go (eqb (r .pending) 0) (listed (r .pending) 9)
+    where
+      go : (t u : Bool) → cond t (quiet 0 r) (cond u (sweepEvents cfg d (tableNotices cfg (r .pending) noticeTable) (withPending r 0)) (notify 0 (withPending r 0) (tableNotices cfg (r .pending) noticeTable))) .number ≡ 0
+      go true u = refl
+      go false true = refl
+      go false false = refl
+
+pub done-or-refused : DoneOrRefused
+unfolding step writeOccupiedHeatingSetpoint writeOccupiedCoolingSetpoint writeMinHeatSetpointLimit writeMaxHeatSetpointLimit writeMinCoolSetpointLimit writeMaxCoolSetpointLimit writeSystemMode setControlSequenceOfOperation raiseLowerSetpoint armClock outOfBandMessage seedEvents sweep timer deadline applied
+done-or-refused cfg r d (WriteOccupiedHeatingSetpoint v) = guarded cfg r d _ _ (inl refl)
+done-or-refused cfg r d (WriteOccupiedCoolingSetpoint v) = guarded cfg r d _ _ (inl refl)
+done-or-refused cfg r d (WriteMinHeatSetpointLimit v) = guarded cfg r d _ _ (inl refl)
+done-or-refused cfg r d (WriteMaxHeatSetpointLimit v) = guarded cfg r d _ _ (inl refl)
+done-or-refused cfg r d (WriteMinCoolSetpointLimit v) = guarded cfg r d _ _ (inl refl)
+done-or-refused cfg r d (WriteMaxCoolSetpointLimit v) = guarded cfg r d _ _ (inl refl)
+done-or-refused cfg r d (WriteSystemMode v) = guarded cfg r d _ _ (inl refl)
+done-or-refused cfg r d (SetControlSequenceOfOperation v) = guarded cfg r d _ _ (inl refl)
+done-or-refused cfg r d (RaiseLowerSetpoint mode amount) =
+    guarded cfg r d _ _ (raise-guarded cfg r d (ltb 2 mode) (namesAbsentSide cfg mode) (applied cfg d (raiseSides cfg d mode amount (armedClock cfg d r))) (inl refl))
+done-or-refused cfg r d ArmClock = guarded cfg r d _ _ (inl refl)
+done-or-refused cfg r d (OutOfBand m) = guarded cfg r d _ _ (message cfg r d m)
+done-or-refused cfg r d SeedEvents = guarded cfg r d _ _ (inl refl)
+done-or-refused cfg r d Sweep = guarded cfg r d _ _ (inl (swept-done cfg r d))
+done-or-refused cfg r d Timer = guarded cfg r d _ _ (inl refl)
+done-or-refused cfg r d Deadline = guarded cfg r d _ _ (inl refl)

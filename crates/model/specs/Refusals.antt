@@ -1,0 +1,36 @@
+-- Document 01, Causes and answers: numbered causes in order, the first that holds wins.
+use mathlib.Core.Path.{_≡_}
+use mathlib.Core.Bool.{Bool, true, false, _&&_, cond}
+use mathlib.Core.List.{List, [], _∷_}
+use Prim.Native.Nat.{ℕ}
+use lib.Dec.{ltb}
+use Rattle.model.specs.Answers.{Outcome, quiet}
+use Rattle.model.specs.declared.Controller.{Controller}
+
+-- a row of the table: its number, and whether its cause is there
+pub record Row : Type 0 where
+  pub number : ℕ
+  pub cause : Bool
+
+abbrev pub row : ℕ → Bool → Row
+row n t = record { number = n; cause = t }
+
+-- the first failure's number; 0 is done
+unfoldable pub firstFailing : List Row → ℕ
+firstFailing [] = 0
+firstFailing (w ∷ ws) = cond (w .cause) (w .number) (firstFailing ws)
+
+-- refused with the first failure's number and the record as given, else the outcome
+unfoldable pub unless : List Row → Controller → Outcome → Outcome
+unless [] r o = o
+unless (w ∷ ws) r o = cond (w .cause) (quiet (w .number) r) (unless ws r o)
+
+-- no cause is there
+abbrev pub Clear : List Row → Type 0
+Clear [] = Unit {0}
+Clear (w ∷ ws) = (w .cause ≡ false) × Clear ws
+
+-- no number is 0
+abbrev pub numbered : List Row → Bool
+numbered [] = true
+numbered (w ∷ ws) = ltb 0 (w .number) && numbered ws

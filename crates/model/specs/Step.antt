@@ -1,0 +1,40 @@
+-- Opening, and every call by cases.
+use mathlib.Core.Bool.{false, cond}
+use mathlib.Core.List.{[]}
+use Prim.Native.Nat.{ℕ}
+use Rattle.model.specs.Records.{blank, openedRecord}
+use Rattle.model.specs.Answers.{Outcome, quiet}
+use Rattle.model.specs.Served.{emitsAny}
+use Rattle.model.specs.Validation.{validated, accepted}
+use Rattle.model.specs.Repair.{repaired}
+use Rattle.model.specs.Writes.{writeOccupiedHeatingSetpoint, writeOccupiedCoolingSetpoint, writeMinHeatSetpointLimit, writeMaxHeatSetpointLimit, writeMinCoolSetpointLimit, writeMaxCoolSetpointLimit, writeSystemMode, setControlSequenceOfOperation, raiseLowerSetpoint, armClock}
+use Rattle.model.specs.Messages.{repairedRecord, outOfBandMessage}
+use Rattle.model.specs.Sweep.{seedEvents, sweep, timer, deadline}
+use Rattle.model.specs.declared.Config.{Config}
+use Rattle.model.specs.declared.Settings.{Settings}
+use Rattle.model.specs.declared.Controller.{Controller}
+use Rattle.model.specs.declared.Readings.{Readings}
+use Rattle.model.specs.declared.Call.{Call}
+use Rattle.model.specs.declared.Call.the-variants.{WriteOccupiedHeatingSetpoint, WriteOccupiedCoolingSetpoint, WriteMinHeatSetpointLimit, WriteMaxHeatSetpointLimit, WriteMinCoolSetpointLimit, WriteMaxCoolSetpointLimit, WriteSystemMode, SetControlSequenceOfOperation, RaiseLowerSetpoint, ArmClock, OutOfBand, SeedEvents, Sweep, Timer, Deadline}
+
+-- opening is validation, then repair of the given settings in a record otherwise blank; refused, it returns N and blank
+unfoldable pub opened : Config → Settings → Outcome
+opened cfg s = cond (accepted cfg) (repairedRecord cfg blank (record { settings = s; dirty = false })) (quiet (validated cfg) blank)
+
+-- every call that takes a record
+unfoldable pub step : Config → Controller → Readings → Call → Outcome
+step cfg r d (WriteOccupiedHeatingSetpoint v) = writeOccupiedHeatingSetpoint cfg r d v
+step cfg r d (WriteOccupiedCoolingSetpoint v) = writeOccupiedCoolingSetpoint cfg r d v
+step cfg r d (WriteMinHeatSetpointLimit v) = writeMinHeatSetpointLimit cfg r d v
+step cfg r d (WriteMaxHeatSetpointLimit v) = writeMaxHeatSetpointLimit cfg r d v
+step cfg r d (WriteMinCoolSetpointLimit v) = writeMinCoolSetpointLimit cfg r d v
+step cfg r d (WriteMaxCoolSetpointLimit v) = writeMaxCoolSetpointLimit cfg r d v
+step cfg r d (WriteSystemMode v) = writeSystemMode cfg r d v
+step cfg r d (SetControlSequenceOfOperation v) = setControlSequenceOfOperation cfg r v
+step cfg r d (RaiseLowerSetpoint mode amount) = raiseLowerSetpoint cfg r d mode amount
+step cfg r d ArmClock = armClock cfg r d
+step cfg r d (OutOfBand m) = outOfBandMessage cfg r m
+step cfg r d SeedEvents = seedEvents cfg r d
+step cfg r d Sweep = sweep cfg r d
+step cfg r d Timer = timer cfg r d
+step cfg r d Deadline = deadline cfg r d

@@ -1,0 +1,197 @@
+-- Document 01, Writes: setpoints, limits, mode, raise/lower; and the plant order in which each ends.
+use mathlib.Core.Bool.{Bool, not, _&&_, _||_, cond}
+use mathlib.Core.List.{List, [], _∷_, _++_}
+use Prim.Native.Nat.{ℕ}
+use lib.Bits.{bitOr}
+use lib.Dec.{eqb, ltb}
+use Rattle.units.specs.Units.{plus, minus, above, below, within, widened, raised, saturatedDifference}
+use Rattle.units.specs.declared.Hundredths.{Hundredths}
+use Rattle.units.specs.declared.Tenths.{Tenths}
+use Rattle.model.specs.Records.{withAttrs, withPending, withChange, changedTo, setHeating, setCooling, setMinHeat, setMaxHeat, setMinCool, setMaxCool, setMode}
+use Rattle.model.specs.Answers.{Outcome, Stage, onlyIf, quiet, andThen, unchanged}
+use Rattle.model.specs.Refusals.{Row, row, unless}
+use Rattle.model.specs.Served.{heats, cools, auto, serves, emitsAny, noticed}
+use Rattle.model.specs.Units.{deadBand}
+use Rattle.model.specs.Limits.{minHeatSetpoint, maxHeatSetpoint, minCoolSetpoint, maxCoolSetpoint, inHeatLimits, inCoolLimits, clampHeatSetpoint, clampCoolSetpoint}
+use Rattle.model.specs.Modes.{isSupportedSystemMode, runningState}
+use Rattle.model.specs.Attribution.{external, recorded, armedClock, claimSetpoints}
+use Rattle.model.specs.Sound.{unsound}
+use Rattle.model.specs.declared.Config.{Config}
+use Rattle.model.specs.declared.Settings.{Settings}
+use Rattle.model.specs.declared.Attrs.{Attrs}
+use Rattle.model.specs.declared.SetpointChangeState.{SetpointChangeState}
+use Rattle.model.specs.declared.Moment.the-variants.{Never}
+use Rattle.model.specs.declared.Order.{Order}
+use Rattle.model.specs.declared.Order.the-variants.{Apply}
+use Rattle.model.specs.declared.Controller.{Controller}
+use Rattle.model.specs.declared.Readings.{Readings}
+
+-- the plant order
+abbrev pub orderOf : Settings → Order
+orderOf s = Apply (s .mode) (s .heating) (s .cooling)
+
+-- a plant order sets bit 9 if any event is served
+unfoldable pub askSweep : Config → Controller → Controller
+askSweep cfg r = withPending r (cond (emitsAny cfg) (bitOr (r .pending) 0x200) (r .pending))
+
+-- 0x29 and 0x1E if the counted relays differ between the readings before and after
+unfoldable pub relayNotices : Config → Readings → List ℕ
+relayNotices cfg d = onlyIf (not (eqb (runningState cfg (d .relaysbefore)) (runningState cfg (d .relaysafter)))) (noticed cfg 0x29 ++ noticed cfg 0x1E)
+
+-- done, with a plant order
+unfoldable pub applied : Config → Readings → Stage → Outcome
+applied cfg d s = record {
+  number = 0;
+  rec = askSweep cfg (s .rec);
+  order = orderOf (s .rec .attrs .settings);
+  notices = s .notices ++ relayNotices cfg d;
+  events = [];
+  deadline = Never;
+}
+
+-- the three notices of a recorded change
+unfoldable pub sourceNotices : Config → List ℕ
+sourceNotices cfg = noticed cfg 0x30 ++ (noticed cfg 0x31 ++ noticed cfg 0x32)
+
+-- with AUTO, if heating v exceeds cooling − dead band, cooling becomes clamped heating + dead band
+unfoldable pub coolingBeside : Config → Settings → Hundredths → Hundredths
+coolingBeside cfg s v = cond (auto cfg && above v (minus (s .cooling) (deadBand cfg))) (clampCoolSetpoint cfg s (plus v (deadBand cfg))) (s .cooling)
+
+-- cooling mirrors this
+unfoldable pub heatingBeside : Config → Settings → Hundredths → Hundredths
+heatingBeside cfg s v = cond (auto cfg && below v (plus (s .heating) (deadBand cfg))) (clampHeatSetpoint cfg s (minus v (deadBand cfg))) (s .heating)
+
+-- a change that differs is recorded, with the saturated difference
+unfoldable pub recordedIf : Bool → Readings → ℕ → Hundredths → Hundredths → SetpointChangeState → SetpointChangeState
+recordedIf moved d source old new c = cond moved (recorded c source (saturatedDifference new old) (d .hook)) c
+
+-- the heating value is stored, noticed and recorded if it differs; the gap is kept; the pair is claimed
+unfoldable pub storeHeatingSetpoint : Config → Readings → ℕ → Hundredths → Controller → Stage
+storeHeatingSetpoint cfg d source v r =
+    let s = r .attrs .settings in
+    let moved = changedTo (s .heating) v in
+    let beside = coolingBeside cfg s v in
+    record {
+      rec = claimSetpoints cfg (withChange (withAttrs r (setCooling (setHeating (r .attrs) v) beside)) (recordedIf moved d source (s .heating) v (r .change)));
+      notices = onlyIf moved (noticed cfg 0x12 ++ sourceNotices cfg) ++ onlyIf (changedTo (s .cooling) beside) (noticed cfg 0x11);
+    }
+
+unfoldable pub storeCoolingSetpoint : Config → Readings → ℕ → Hundredths → Controller → Stage
+storeCoolingSetpoint cfg d source v r =
+    let s = r .attrs .settings in
+    let moved = changedTo (s .cooling) v in
+    let beside = heatingBeside cfg s v in
+    record {
+      rec = claimSetpoints cfg (withChange (withAttrs r (setHeating (setCooling (r .attrs) v) beside)) (recordedIf moved d source (s .cooling) v (r .change)));
+      notices = onlyIf moved (noticed cfg 0x11 ++ sourceNotices cfg) ++ onlyIf (changedTo (s .heating) beside) (noticed cfg 0x12);
+    }
+
+-- 24: write to an unserved attribute
+abbrev pub unserved : Config → ℕ → Row
+unserved cfg code = row 24 (not (serves cfg code))
+
+-- a setpoint write must lie within the limits in force
+unfoldable pub writeOccupiedHeatingSetpoint : Config → Controller → Readings → Hundredths → Outcome
+writeOccupiedHeatingSetpoint cfg r d v =
+    let s = r .attrs .settings in
+    unless (unsound cfg r ∷ unserved cfg 0x12 ∷ row 22 (not (inHeatLimits cfg s v)) ∷ []) r
+    (applied cfg d (storeHeatingSetpoint cfg d external v r))
+
+unfoldable pub writeOccupiedCoolingSetpoint : Config → Controller → Readings → Hundredths → Outcome
+writeOccupiedCoolingSetpoint cfg r d v =
+    let s = r .attrs .settings in
+    unless (unsound cfg r ∷ unserved cfg 0x11 ∷ row 22 (not (inCoolLimits cfg s v)) ∷ []) r
+    (applied cfg d (storeCoolingSetpoint cfg d external v r))
+
+-- a limit pulls its setpoint in: a setpoint outside the limits in force is stored at the nearest one
+unfoldable pub pullHeating : Config → Readings → Controller → Stage
+pullHeating cfg d r =
+    let s = r .attrs .settings in
+    cond (inHeatLimits cfg s (s .heating)) (unchanged r)
+    (storeHeatingSetpoint cfg d external (clampHeatSetpoint cfg s (widened (s .heating))) r)
+
+unfoldable pub pullCooling : Config → Readings → Controller → Stage
+pullCooling cfg d r =
+    let s = r .attrs .settings in
+    cond (inCoolLimits cfg s (s .cooling)) (unchanged r)
+    (storeCoolingSetpoint cfg d external (clampCoolSetpoint cfg s (widened (s .cooling))) r)
+
+-- the limit is stored and noticed, then pulls
+abbrev pub limitStored : Config → Controller → Attrs → ℕ → Stage
+limitStored cfg r a code = record { rec = withAttrs r a; notices = noticed cfg code }
+
+-- a minimum may not exceed its maximum or leave ABS; AUTO keeps it at most cooling minimum − dead band
+unfoldable pub writeMinHeatSetpointLimit : Config → Controller → Readings → Hundredths → Outcome
+writeMinHeatSetpointLimit cfg r d v =
+    let s = r .attrs .settings in
+    unless (unsound cfg r ∷ unserved cfg 0x15 ∷ row 22 (not (within v (cfg .absminheat) (s .maxheat)) || (auto cfg && above v (minus (minCoolSetpoint cfg s) (deadBand cfg)))) ∷ []) r
+    (applied cfg d (andThen (limitStored cfg r (setMinHeat (r .attrs) v) 0x15) (pullHeating cfg d)))
+
+-- nor a maximum the reverse
+unfoldable pub writeMaxHeatSetpointLimit : Config → Controller → Readings → Hundredths → Outcome
+writeMaxHeatSetpointLimit cfg r d v =
+    let s = r .attrs .settings in
+    unless (unsound cfg r ∷ unserved cfg 0x16 ∷ row 22 (not (within v (s .minheat) (cfg .absmaxheat)) || (auto cfg && above v (minus (maxCoolSetpoint cfg s) (deadBand cfg)))) ∷ []) r
+    (applied cfg d (andThen (limitStored cfg r (setMaxHeat (r .attrs) v) 0x16) (pullHeating cfg d)))
+
+unfoldable pub writeMinCoolSetpointLimit : Config → Controller → Readings → Hundredths → Outcome
+writeMinCoolSetpointLimit cfg r d v =
+    let s = r .attrs .settings in
+    unless (unsound cfg r ∷ unserved cfg 0x17 ∷ row 22 (not (within v (cfg .absmincool) (s .maxcool)) || (auto cfg && below v (plus (minHeatSetpoint cfg s) (deadBand cfg)))) ∷ []) r
+    (applied cfg d (andThen (limitStored cfg r (setMinCool (r .attrs) v) 0x17) (pullCooling cfg d)))
+
+unfoldable pub writeMaxCoolSetpointLimit : Config → Controller → Readings → Hundredths → Outcome
+writeMaxCoolSetpointLimit cfg r d v =
+    let s = r .attrs .settings in
+    unless (unsound cfg r ∷ unserved cfg 0x18 ∷ row 22 (not (within v (s .mincool) (cfg .absmaxcool)) || (auto cfg && below v (plus (maxHeatSetpoint cfg s) (deadBand cfg)))) ∷ []) r
+    (applied cfg d (andThen (limitStored cfg r (setMaxCool (r .attrs) v) 0x18) (pullCooling cfg d)))
+
+-- 0x1C last, always
+abbrev pub thenNoticed : Config → ℕ → Outcome → Outcome
+thenNoticed cfg code o = record { number = o .number; rec = o .rec; order = o .order; notices = o .notices ++ noticed cfg code; events = o .events; deadline = o .deadline }
+
+-- a mode write must be supported
+unfoldable pub writeSystemMode : Config → Controller → Readings → ℕ → Outcome
+writeSystemMode cfg r d v =
+    unless (unsound cfg r ∷ row 22 (not (isSupportedSystemMode cfg v)) ∷ []) r
+    (thenNoticed cfg 0x1C (applied cfg d (unchanged (withAttrs r (setMode (r .attrs) v)))))
+
+-- accepts and changes nothing
+unfoldable pub setControlSequenceOfOperation : Config → Controller → ℕ → Outcome
+setControlSequenceOfOperation cfg r v = unless (unsound cfg r ∷ []) r (quiet 0 r)
+
+-- raise/lower of one side: adds the signed amount times ten, clamps and stores
+unfoldable pub raiseHeating : Config → Readings → Tenths → Controller → Stage
+raiseHeating cfg d amount r =
+    let s = r .attrs .settings in
+    storeHeatingSetpoint cfg d external (raised (s .heating) amount (minHeatSetpoint cfg s) (maxHeatSetpoint cfg s)) r
+
+unfoldable pub raiseCooling : Config → Readings → Tenths → Controller → Stage
+raiseCooling cfg d amount r =
+    let s = r .attrs .settings in
+    storeCoolingSetpoint cfg d external (raised (s .cooling) amount (minCoolSetpoint cfg s) (maxCoolSetpoint cfg s)) r
+
+-- the base rule of Both: heating first, then cooling from what heating left; an absent side is passed over
+unfoldable pub raiseBoth : Config → Readings → Tenths → Controller → Stage
+raiseBoth cfg d amount r =
+    andThen (cond (heats cfg) (raiseHeating cfg d amount r) (unchanged r))
+    (λ (q : Controller). cond (cools cfg) (raiseCooling cfg d amount q) (unchanged q))
+
+-- Heat 0, Cool 1, Both 2
+unfoldable pub raiseSides : Config → Readings → ℕ → Tenths → Controller → Stage
+raiseSides cfg d mode amount r = cond (eqb mode 0) (raiseHeating cfg d amount r) (cond (eqb mode 1) (raiseCooling cfg d amount r) (raiseBoth cfg d amount r))
+
+-- it names a side that the features lack
+unfoldable pub namesAbsentSide : Config → ℕ → Bool
+namesAbsentSide cfg mode = (eqb mode 0 && not (heats cfg)) || (eqb mode 1 && not (cools cfg))
+
+-- raise/lower arms first, so 25 and 23 keep the newly armed clock
+unfoldable pub raiseLowerSetpoint : Config → Controller → Readings → ℕ → Tenths → Outcome
+raiseLowerSetpoint cfg r d mode amount =
+    let a = armedClock cfg d r in
+    unless (unsound cfg r ∷ []) r
+    (unless (row 25 (ltb 2 mode) ∷ row 23 (namesAbsentSide cfg mode) ∷ []) a (applied cfg d (raiseSides cfg d mode amount a)))
+
+-- arming, as a call
+unfoldable pub armClock : Config → Controller → Readings → Outcome
+armClock cfg r d = unless (unsound cfg r ∷ []) r (quiet 0 (armedClock cfg d r))
