@@ -11,7 +11,7 @@ use Rattle.integers.specs.Linear.{linear, sum-parts}
 use Rattle.units.specs.Units.{plus, minus, above, below, within, widened, raised, inHundredths}
 use Rattle.units.specs.declared.Hundredths.{Hundredths}
 use Rattle.units.specs.declared.Tenths.{Tenths}
-use Rattle.model.specs.Records.{withAttrs, setHeating, setCooling, setMinHeat, setMaxHeat, setMinCool, setMaxCool, setMode, withPending, withEvents}
+use Rattle.model.specs.Records.{changedTo, withAttrs, setHeating, setCooling, setMinHeat, setMaxHeat, setMinCool, setMaxCool, setMode, withPending, withEvents}
 use Rattle.model.specs.Answers.{Outcome, Stage, quiet, andThen, unchanged}
 use Rattle.model.specs.Refusals.{Row, unless, Clear}
 use Rattle.model.specs.Served.{heats, cools, auto, serves, listed, hasHeatLimits, hasCoolLimits, someHeatLimit, someCoolLimit}
@@ -21,7 +21,7 @@ use Rattle.model.specs.Modes.{isSupportedSystemMode}
 use Rattle.model.specs.Attribution.{external, armedClock, claimSetpoints, servedSetpoints}
 use Rattle.model.specs.Validation.{accepted}
 use Rattle.model.specs.Sound.{lastClock, soundHeatLimits, soundCoolLimits, soundGap, soundHeating, soundCooling, soundSettings, soundLast, sound}
-use Rattle.model.specs.Writes.{askSweep, applied, thenNoticed, coolingBeside, heatingBeside, storeHeatingSetpoint, storeCoolingSetpoint, pullHeating, pullCooling, limitStored, raiseHeating, raiseCooling, raiseBoth, raiseSides, writeOccupiedHeatingSetpoint, writeOccupiedCoolingSetpoint, writeMinHeatSetpointLimit, writeMaxHeatSetpointLimit, writeMinCoolSetpointLimit, writeMaxCoolSetpointLimit, writeSystemMode, setControlSequenceOfOperation, raiseLowerSetpoint, armClock}
+use Rattle.model.specs.Writes.{minHeatRows, maxHeatRows, minCoolRows, maxCoolRows, askSweep, applied, thenNoticed, coolingBeside, heatingBeside, storeHeatingSetpoint, storeCoolingSetpoint, pullHeating, pullCooling, limitStored, raiseHeating, raiseCooling, raiseBoth, raiseSides, writeOccupiedHeatingSetpoint, writeOccupiedCoolingSetpoint, writeMinHeatSetpointLimit, writeMaxHeatSetpointLimit, writeMinCoolSetpointLimit, writeMaxCoolSetpointLimit, writeSystemMode, setControlSequenceOfOperation, raiseLowerSetpoint, armClock}
 use Rattle.model.specs.Messages.{messageTaken, heatingMessage, coolingMessage, modeMessage, limitsMessage, limitsTaken, outOfBandMessage}
 use Rattle.model.specs.Repair.{repaired}
 use Rattle.model.specs.Sweep.{Taken, snapshotOf, started, attributedTo, localRecorded, attributeLocalSetpointChange, sameSnapshot, committed, tellsTemperature, takenFrom, takeEvents, late, noticeTable, tableNotices, notify, sweepEvents, swept, sweep, timer, seedEvents, deadline}
@@ -43,7 +43,7 @@ use Rattle.model.specs.declared.OutOfBandMessage.{OutOfBandMessage}
 use Rattle.model.specs.declared.OutOfBandMessage.the-variants.{LocalTemperature, RunningState, Update, OccupiedHeatingSetpoint, OccupiedCoolingSetpoint, SystemMode, SetpointLimits}
 use Rattle.model.specs.declared.Call.{Call}
 use Rattle.model.specs.declared.Call.the-variants.{WriteOccupiedHeatingSetpoint, WriteOccupiedCoolingSetpoint, WriteMinHeatSetpointLimit, WriteMaxHeatSetpointLimit, WriteMinCoolSetpointLimit, WriteMaxCoolSetpointLimit, WriteSystemMode, SetControlSequenceOfOperation, RaiseLowerSetpoint, ArmClock, OutOfBand, SeedEvents, Sweep, Timer, Deadline}
-use Rattle.model.proofs.Logic.{both, and-true, implied, implies, neither, not-both, by-cond, by-unless}
+use Rattle.model.proofs.Logic.{both, implied, implies, neither, or-left, or-right, not-both, by-cond, by-unless}
 use Rattle.model.proofs.Valid.{Valid, valid}
 use Rattle.model.proofs.Chain.{Ordered, LimitTests, Placed, InForce, inside, apart, heat-ordered, is-heat-ordered, cool-ordered, is-cool-ordered, gaps, is-gaps, in-force, clamp-inside, heat-clamped, cool-clamped}
 use Rattle.model.proofs.Repair.{repair-placed}
@@ -74,3 +74,339 @@ is-good cfg r a g = let p = g .placed in simp (a, p .limits .heat, p .limits .co
 pub sound-accepted : (cfg : Config) (r : Controller) → sound cfg r ≡ true → accepted cfg ≡ true
 unfolding sound
 sound-accepted cfg r e = both (accepted cfg) _ e .0
+
+-- a setpoint within its limits is stored, the gap kept: the tests of both hold again
+module _ (cfg : Config) (v : Valid cfg) (s : Settings) (t : LimitTests cfg s) where
+  chain : InForce cfg s
+  chain = in-force cfg s v t
+
+  abbrev points : Hundredths → Hundredths → Settings
+  points h c = record { heating = h; cooling = c; minheat = s .minheat; maxheat = s .maxheat; mincool = s .mincool; maxcool = s .maxcool; mode = s .mode }
+
+  pub points-placed : (h c : Hundredths) → (heats cfg ≡ true → inHeatLimits cfg s h ≡ true) → (cools cfg ≡ true → inCoolLimits cfg s c ≡ true) → Placed cfg (points h c)
+  unfolding soundHeatLimits soundCoolLimits soundGap soundHeating soundCooling inHeatLimits inCoolLimits minHeatSetpoint maxHeatSetpoint minCoolSetpoint maxCoolSetpoint
+  points-placed h c f g =
+      record { limits = record { heat = t .heat; cool = t .cool; gap = t .gap }; heating = implies (heats cfg) _ f; cooling = implies (cools cfg) _ g }
+
+  beside-cooling : (h : Hundredths) → (cools cfg ≡ true → inCoolLimits cfg s (s .cooling) ≡ true) → cools cfg ≡ true → inCoolLimits cfg s (coolingBeside cfg s h) ≡ true
+  unfolding coolingBeside
+  beside-cooling h old c =
+      by-cond (λ (x : Hundredths). inCoolLimits cfg s x ≡ true) (auto cfg && above h (minus (s .cooling) (deadBand cfg))) _ (s .cooling)
+      (λ e. cool-clamped cfg s (plus h (deadBand cfg)) chain) (λ e. old c)
+
+  beside-heating : (c : Hundredths) → (heats cfg ≡ true → inHeatLimits cfg s (s .heating) ≡ true) → heats cfg ≡ true → inHeatLimits cfg s (heatingBeside cfg s c) ≡ true
+  unfolding heatingBeside
+  beside-heating c old h =
+      by-cond (λ (x : Hundredths). inHeatLimits cfg s x ≡ true) (auto cfg && below c (plus (s .heating) (deadBand cfg))) _ (s .heating)
+      (λ e. heat-clamped cfg s (minus c (deadBand cfg)) chain) (λ e. old h)
+
+pub heating-inside : (cfg : Config) (s : Settings) → soundHeating cfg s ≡ true → heats cfg ≡ true → inHeatLimits cfg s (s .heating) ≡ true
+unfolding soundHeating
+heating-inside cfg s e h = implied (heats cfg) _ e h
+
+pub cooling-inside : (cfg : Config) (s : Settings) → soundCooling cfg s ≡ true → cools cfg ≡ true → inCoolLimits cfg s (s .cooling) ≡ true
+unfolding soundCooling
+cooling-inside cfg s e c = implied (cools cfg) _ e c
+
+-- the tests of row 28 that a store of setpoints leaves alone
+pub record Rest (cfg : Config) (r : Controller) : Type 0 where
+  pub limits : LimitTests cfg (r .attrs .settings)
+  pub mode : isSupportedSystemMode cfg (r .attrs .settings .mode) ≡ true
+  pub last : soundLast (r .events .last) ≡ true
+
+rest : (cfg : Config) (r : Controller) → Good cfg r → Rest cfg r
+rest cfg r g = record { limits = g .placed .limits; mode = g .mode; last = g .last }
+
+module _ (cfg : Config) (v : Valid cfg) (d : Readings) where
+  heating-stored : (source : ℕ) (h : Hundredths) (r : Controller) → Rest cfg r → soundCooling cfg (r .attrs .settings) ≡ true → inHeatLimits cfg (r .attrs .settings) h ≡ true → Good cfg (storeHeatingSetpoint cfg d source h r .rec)
+  unfolding storeHeatingSetpoint claimSetpoints
+  heating-stored source h r k c e =
+      let s = r .attrs .settings in
+      let t = k .limits in
+      record { placed = points-placed cfg v s t h (coolingBeside cfg s h) (λ z. e) (beside-cooling cfg v s t h (cooling-inside cfg s c)); mode = k .mode; last = k .last }
+
+  cooling-stored : (source : ℕ) (c : Hundredths) (r : Controller) → Rest cfg r → soundHeating cfg (r .attrs .settings) ≡ true → inCoolLimits cfg (r .attrs .settings) c ≡ true → Good cfg (storeCoolingSetpoint cfg d source c r .rec)
+  unfolding storeCoolingSetpoint claimSetpoints
+  cooling-stored source c r k h e =
+      let s = r .attrs .settings in
+      let t = k .limits in
+      record { placed = points-placed cfg v s t (heatingBeside cfg s c) c (beside-heating cfg v s t c (heating-inside cfg s h)) (λ z. e); mode = k .mode; last = k .last }
+
+  abbrev GoodStage : Stage → Type 0
+  GoodStage q = Good cfg (q .rec)
+
+  -- a pull leaves the setpoint within its limits
+  heating-pulled : (r : Controller) → Rest cfg r → soundCooling cfg (r .attrs .settings) ≡ true → GoodStage (pullHeating cfg d r)
+  unfolding pullHeating soundHeating
+  heating-pulled r k c =
+      let s = r .attrs .settings in
+      let w = widened (s .heating) in
+      by-cond GoodStage (inHeatLimits cfg s (s .heating)) (unchanged r) _
+      (λ e. record { placed = record { limits = k .limits; heating = implies (heats cfg) _ (λ z. e); cooling = c }; mode = k .mode; last = k .last })
+      (λ e. heating-stored external (clampHeatSetpoint cfg s w) r k c (heat-clamped cfg s w (in-force cfg s v (k .limits))))
+
+  cooling-pulled : (r : Controller) → Rest cfg r → soundHeating cfg (r .attrs .settings) ≡ true → GoodStage (pullCooling cfg d r)
+  unfolding pullCooling soundCooling
+  cooling-pulled r k h =
+      let s = r .attrs .settings in
+      let w = widened (s .cooling) in
+      by-cond GoodStage (inCoolLimits cfg s (s .cooling)) (unchanged r) _
+      (λ e. record { placed = record { limits = k .limits; heating = h; cooling = implies (cools cfg) _ (λ z. e) }; mode = k .mode; last = k .last })
+      (λ e. cooling-stored external (clampCoolSetpoint cfg s w) r k h (cool-clamped cfg s w (in-force cfg s v (k .limits))))
+
+  -- a raised setpoint is clamped
+  pub raised-heat : (s : Settings) (a : Tenths) → InForce cfg s → inHeatLimits cfg s (raised (s .heating) a (minHeatSetpoint cfg s) (maxHeatSetpoint cfg s)) ≡ true
+  unfolding inHeatLimits raised
+  raised-heat s a k = clamp-inside (plus (s .heating) (inHundredths a)) (minHeatSetpoint cfg s) (maxHeatSetpoint cfg s) (k .heat)
+
+  pub raised-cool : (s : Settings) (a : Tenths) → InForce cfg s → inCoolLimits cfg s (raised (s .cooling) a (minCoolSetpoint cfg s) (maxCoolSetpoint cfg s)) ≡ true
+  unfolding inCoolLimits raised
+  raised-cool s a k = clamp-inside (plus (s .cooling) (inHundredths a)) (minCoolSetpoint cfg s) (maxCoolSetpoint cfg s) (k .cool)
+
+  pub heat-raised : (a : Tenths) (r : Controller) → Good cfg r → GoodStage (raiseHeating cfg d a r)
+  unfolding raiseHeating
+  heat-raised a r g = heating-stored external _ r (rest cfg r g) (g .placed .cooling) (raised-heat (r .attrs .settings) a (in-force cfg (r .attrs .settings) v (g .placed .limits)))
+
+  cool-raised : (a : Tenths) (r : Controller) → Good cfg r → GoodStage (raiseCooling cfg d a r)
+  unfolding raiseCooling
+  cool-raised a r g = cooling-stored external _ r (rest cfg r g) (g .placed .heating) (raised-cool (r .attrs .settings) a (in-force cfg (r .attrs .settings) v (g .placed .limits)))
+
+  both-raised : (a : Tenths) (r : Controller) → Good cfg r → GoodStage (raiseBoth cfg d a r)
+  unfolding raiseBoth
+  both-raised a r g =
+      let x = cond (heats cfg) (raiseHeating cfg d a r) (unchanged r) in
+      let k : GoodStage x = by-cond GoodStage (heats cfg) (raiseHeating cfg d a r) (unchanged r) (λ e. heat-raised a r g) (λ e. g) in
+      by-cond GoodStage (cools cfg) (raiseCooling cfg d a (x .rec)) (unchanged (x .rec)) (λ e. cool-raised a (x .rec) k) (λ e. k)
+
+  sides-raised : (mode : ℕ) (a : Tenths) (r : Controller) → Good cfg r → GoodStage (raiseSides cfg d mode a r)
+  unfolding raiseSides
+  sides-raised mode a r g =
+      by-cond GoodStage (eqb mode 0) _ _ (λ e. heat-raised a r g) (λ e. by-cond GoodStage (eqb mode 1) _ _ (λ f. cool-raised a r g) (λ f. both-raised a r g))
+
+  -- what touches neither settings nor the last event
+  pub armed-good : (r : Controller) → Good cfg r → Good cfg (armedClock cfg d r)
+  unfolding armedClock
+  armed-good r g = record { placed = g .placed; mode = g .mode; last = g .last }
+
+  started-good : (r : Controller) → Good cfg r → Good cfg (started cfg d r)
+  unfolding started claimSetpoints
+  started-good r g = record { placed = g .placed; mode = g .mode; last = g .last }
+
+  applied-good : (q : Stage) → GoodStage q → Good cfg (applied cfg d q .rec)
+  unfolding applied askSweep
+  applied-good q g = record { placed = g .placed; mode = g .mode; last = g .last }
+
+  local-good : (r : Controller) (a b : Attributed) → Good cfg r → GoodStage (attributedTo cfg d r a b)
+  local-good r Unclaimed Unclaimed g = g
+  local-good r (Claimed h c) Unclaimed g = g
+  local-good r Unclaimed (Claimed h c) g = record { placed = g .placed; mode = g .mode; last = g .last }
+  local-good r (Claimed oldh oldc) (Claimed h c) g =
+      by-cond GoodStage (changedTo oldh h || changedTo oldc c) (localRecorded cfg d r oldh oldc h c) (unchanged r) (λ e. record { placed = g .placed; mode = g .mode; last = g .last }) (λ e. g)
+
+  -- a clock that row 27 lets pass is a last event that row 28 lets pass
+  clock-sound : ltb lastClock (d .clock) ≡ false → soundLast (Ms (d .clock)) ≡ true
+  clock-sound e = le-leb (d .clock) lastClock (ltb-false lastClock (d .clock) e)
+
+  taken-good : (r : Controller) (s : Shadow) → ltb lastClock (d .clock) ≡ false → Good cfg r → Good cfg (takenFrom cfg d r s .rec)
+  unfolding committed
+  taken-good r Unseeded e g = started-good r g
+  taken-good r (Seeded old) e g =
+      by-cond (λ (t : Taken). Good cfg (t .rec)) (sameSnapshot old (snapshotOf cfg d r)) _ _ (λ f. g)
+      (λ f. record {
+        placed = g .placed;
+        mode = g .mode;
+        last = by-cond (λ (m : Moment). soundLast m ≡ true) (tellsTemperature cfg old (snapshotOf cfg d r) (r .events .last) (d .clock)) (Ms (d .clock)) (r .events .last) (λ t. clock-sound e) (λ t. g .last);
+      })
+
+  events-good : (r : Controller) → ltb lastClock (d .clock) ≡ false → Good cfg r → Good cfg (takeEvents cfg d r .rec)
+  unfolding takeEvents
+  events-good r e g = taken-good r (r .events .shadow) e g
+
+  swept-good : (r : Controller) → ltb lastClock (d .clock) ≡ false → Good cfg r → Good cfg (swept cfg d r .rec)
+  unfolding swept sweepEvents attributeLocalSetpointChange
+  swept-good r e g =
+      let q = armedClock cfg d (withPending r 0) in
+      let k : Good cfg (withPending r 0) = record { placed = g .placed; mode = g .mode; last = g .last } in
+      by-cond (λ (o : Outcome). Good cfg (o .rec)) (eqb (r .pending) 0) (quiet 0 r) _ (λ f. g)
+      (λ f. by-cond (λ (o : Outcome). Good cfg (o .rec)) (listed (r .pending) 9) _ _
+      (λ h. events-good _ e (local-good q (q .change .attributed) (servedSetpoints cfg (q .attrs .settings)) (armed-good (withPending r 0) k))) (λ h. k))
+
+  -- out of band: a clamped setpoint, a supported mode
+  heating-message : (w : Hundredths) (r : Controller) → Good cfg r → Good cfg (heatingMessage cfg r w .rec)
+  unfolding heatingMessage
+  heating-message w r g =
+      let s = r .attrs .settings in
+      let t = g .placed .limits in
+      record { placed = points-placed cfg v s t (clampHeatSetpoint cfg s (widened w)) (s .cooling) (λ z. heat-clamped cfg s (widened w) (in-force cfg s v t)) (cooling-inside cfg s (g .placed .cooling)); mode = g .mode; last = g .last }
+
+  cooling-message : (w : Hundredths) (r : Controller) → Good cfg r → Good cfg (coolingMessage cfg r w .rec)
+  unfolding coolingMessage
+  cooling-message w r g =
+      let s = r .attrs .settings in
+      let t = g .placed .limits in
+      record { placed = points-placed cfg v s t (s .heating) (clampCoolSetpoint cfg s (widened w)) (heating-inside cfg s (g .placed .heating)) (λ z. cool-clamped cfg s (widened w) (in-force cfg s v t)); mode = g .mode; last = g .last }
+
+  mode-stored : (m : ℕ) (r : Controller) → isSupportedSystemMode cfg m ≡ true → Good cfg r → Good cfg (withAttrs r (setMode (r .attrs) m))
+  unfolding soundHeatLimits soundCoolLimits soundGap soundHeating soundCooling inHeatLimits inCoolLimits minHeatSetpoint maxHeatSetpoint minCoolSetpoint maxCoolSetpoint
+  mode-stored m r e g =
+      let p = g .placed in
+      record { placed = record { limits = record { heat = p .limits .heat; cool = p .limits .cool; gap = p .limits .gap }; heating = p .heating; cooling = p .cooling }; mode = e; last = g .last }
+
+  message-good : (r : Controller) (m : OutOfBandMessage) → Good cfg r → Good cfg (messageTaken cfg r m .rec)
+  unfolding modeMessage limitsMessage askSweep
+  message-good r LocalTemperature g = record { placed = g .placed; mode = g .mode; last = g .last }
+  message-good r RunningState g = record { placed = g .placed; mode = g .mode; last = g .last }
+  message-good r Update g = record { placed = g .placed; mode = g .mode; last = g .last }
+  message-good r (OccupiedHeatingSetpoint w) g = heating-message w r g
+  message-good r (OccupiedCoolingSetpoint w) g = cooling-message w r g
+  message-good r (SystemMode m) g =
+      by-unless (λ (o : Outcome). Good cfg (o .rec)) _ r _ (λ n. g)
+      (λ c. let k = mode-stored m r (not-false (isSupportedSystemMode cfg m) (c .0)) g in record { placed = k .placed; mode = k .mode; last = k .last })
+  message-good r (SetpointLimits a b c e) g =
+      let k = repair-placed cfg v (limitsTaken cfg (r .attrs) a b c e) in record { placed = k .0; mode = k .1; last = g .last }
+
+-- a limit attribute is served only with all four of its side
+heat-served : (cfg : Config) → Valid cfg → (serves cfg 0x15 || serves cfg 0x16) ≡ true → hasHeatLimits cfg ≡ true
+unfolding someHeatLimit
+heat-served cfg v e = v .heat-limits (or-right (serves cfg 0x03 || serves cfg 0x04) _ e)
+
+cool-served : (cfg : Config) → Valid cfg → (serves cfg 0x17 || serves cfg 0x18) ≡ true → hasCoolLimits cfg ≡ true
+unfolding someCoolLimit
+cool-served cfg v e = v .cool-limits (or-right (serves cfg 0x05 || serves cfg 0x06) _ e)
+
+-- served limits are those in force
+heat-in-force : (cfg : Config) (s : Settings) → hasHeatLimits cfg ≡ true → (minHeatSetpoint cfg s ≡ s .minheat) × (maxHeatSetpoint cfg s ≡ s .maxheat)
+unfolding minHeatSetpoint maxHeatSetpoint
+heat-in-force cfg s h = (simp h, simp h)
+
+cool-in-force : (cfg : Config) (s : Settings) → hasCoolLimits cfg ≡ true → (minCoolSetpoint cfg s ≡ s .mincool) × (maxCoolSetpoint cfg s ≡ s .maxcool)
+unfolding minCoolSetpoint maxCoolSetpoint
+cool-in-force cfg s h = (simp h, simp h)
+
+pub far : (c h d : Hundredths) → below c (plus h d) ≡ false → (h .0 +ℤ d .0) ≤ℤ c .0
+unfolding below plus
+far c h d e = omega linear
+
+-- a limit that its rule lets pass: the tests of the limits hold with it
+module _ (cfg : Config) (v : Valid cfg) (a : Attrs) (x : Hundredths) (t : LimitTests cfg (a .settings)) where
+  abbrev s : Settings
+  s = a .settings
+
+  min-heat-limits : hasHeatLimits cfg ≡ true → within x (cfg .absminheat) (s .maxheat) ≡ true → (auto cfg ≡ true → above x (minus (minCoolSetpoint cfg s) (deadBand cfg)) ≡ false) → LimitTests cfg (setMinHeat a x .settings)
+  unfolding soundCoolLimits
+  min-heat-limits h e f =
+      let i = inside x (cfg .absminheat) (s .maxheat) e in
+      let o = heat-ordered cfg s (t .heat) h in
+      record {
+        heat = is-heat-ordered cfg (setMinHeat a x .settings) (λ z. record { low = i .0; mid = i .1; high = o .high });
+        cool = t .cool;
+        gap = is-gaps cfg (setMinHeat a x .settings) (λ u z. (rw (cool-in-force cfg s (sym (v .auto-limits u) ∙ h) .0) at (apart x (minCoolSetpoint cfg s) (deadBand cfg) (f u)), gaps cfg s (t .gap) u h .1));
+      }
+
+  max-heat-limits : hasHeatLimits cfg ≡ true → within x (s .minheat) (cfg .absmaxheat) ≡ true → (auto cfg ≡ true → above x (minus (maxCoolSetpoint cfg s) (deadBand cfg)) ≡ false) → LimitTests cfg (setMaxHeat a x .settings)
+  unfolding soundCoolLimits
+  max-heat-limits h e f =
+      let i = inside x (s .minheat) (cfg .absmaxheat) e in
+      let o = heat-ordered cfg s (t .heat) h in
+      record {
+        heat = is-heat-ordered cfg (setMaxHeat a x .settings) (λ z. record { low = o .low; mid = i .0; high = i .1 });
+        cool = t .cool;
+        gap = is-gaps cfg (setMaxHeat a x .settings) (λ u z. (gaps cfg s (t .gap) u h .0, rw (cool-in-force cfg s (sym (v .auto-limits u) ∙ h) .1) at (apart x (maxCoolSetpoint cfg s) (deadBand cfg) (f u))));
+      }
+
+  min-cool-limits : hasCoolLimits cfg ≡ true → within x (cfg .absmincool) (s .maxcool) ≡ true → (auto cfg ≡ true → below x (plus (minHeatSetpoint cfg s) (deadBand cfg)) ≡ false) → LimitTests cfg (setMinCool a x .settings)
+  unfolding soundHeatLimits
+  min-cool-limits h e f =
+      let i = inside x (cfg .absmincool) (s .maxcool) e in
+      let o = cool-ordered cfg s (t .cool) h in
+      record {
+        heat = t .heat;
+        cool = is-cool-ordered cfg (setMinCool a x .settings) (λ z. record { low = i .0; mid = i .1; high = o .high });
+        gap = is-gaps cfg (setMinCool a x .settings) (λ u z. (rw (heat-in-force cfg s z .0) at (far x (minHeatSetpoint cfg s) (deadBand cfg) (f u)), gaps cfg s (t .gap) u z .1));
+      }
+
+  max-cool-limits : hasCoolLimits cfg ≡ true → within x (s .mincool) (cfg .absmaxcool) ≡ true → (auto cfg ≡ true → below x (plus (maxHeatSetpoint cfg s) (deadBand cfg)) ≡ false) → LimitTests cfg (setMaxCool a x .settings)
+  unfolding soundHeatLimits
+  max-cool-limits h e f =
+      let i = inside x (s .mincool) (cfg .absmaxcool) e in
+      let o = cool-ordered cfg s (t .cool) h in
+      record {
+        heat = t .heat;
+        cool = is-cool-ordered cfg (setMaxCool a x .settings) (λ z. record { low = o .low; mid = i .0; high = i .1 });
+        gap = is-gaps cfg (setMaxCool a x .settings) (λ u z. (gaps cfg s (t .gap) u z .0, rw (heat-in-force cfg s z .1) at (far x (maxHeatSetpoint cfg s) (deadBand cfg) (f u))));
+      }
+
+-- the parts of a limit write's row 22
+rule : (w : Bool) (cfg : Config) (g : Bool) → not w || (auto cfg && g) ≡ false → (w ≡ true) × (auto cfg ≡ true → g ≡ false)
+rule w cfg g e = let n = neither (not w) (auto cfg && g) e in (not-false w (n .0), not-both (auto cfg) g (n .1))
+
+-- a limit write that nothing refuses: the tests of the limits hold with its value
+module _ (cfg : Config) (v : Valid cfg) (r : Controller) (g : Good cfg r) (x : Hundredths) where
+  pub min-heat-tests : Clear (minHeatRows cfg r x) → LimitTests cfg (setMinHeat (r .attrs) x .settings)
+  min-heat-tests c =
+      let w = rule _ cfg _ (c .1 .1 .0) in
+      min-heat-limits cfg v (r .attrs) x (g .placed .limits) (heat-served cfg v (or-left (serves cfg 0x15) (serves cfg 0x16) (not-false (serves cfg 0x15) (c .1 .0)))) (w .0) (w .1)
+
+  pub max-heat-tests : Clear (maxHeatRows cfg r x) → LimitTests cfg (setMaxHeat (r .attrs) x .settings)
+  max-heat-tests c =
+      let w = rule _ cfg _ (c .1 .1 .0) in
+      max-heat-limits cfg v (r .attrs) x (g .placed .limits) (heat-served cfg v (or-right (serves cfg 0x15) (serves cfg 0x16) (not-false (serves cfg 0x16) (c .1 .0)))) (w .0) (w .1)
+
+  pub min-cool-tests : Clear (minCoolRows cfg r x) → LimitTests cfg (setMinCool (r .attrs) x .settings)
+  min-cool-tests c =
+      let w = rule _ cfg _ (c .1 .1 .0) in
+      min-cool-limits cfg v (r .attrs) x (g .placed .limits) (cool-served cfg v (or-left (serves cfg 0x17) (serves cfg 0x18) (not-false (serves cfg 0x17) (c .1 .0)))) (w .0) (w .1)
+
+  pub max-cool-tests : Clear (maxCoolRows cfg r x) → LimitTests cfg (setMaxCool (r .attrs) x .settings)
+  max-cool-tests c =
+      let w = rule _ cfg _ (c .1 .1 .0) in
+      max-cool-limits cfg v (r .attrs) x (g .placed .limits) (cool-served cfg v (or-right (serves cfg 0x17) (serves cfg 0x18) (not-false (serves cfg 0x18) (c .1 .0)))) (w .0) (w .1)
+
+module _ (cfg : Config) (v : Valid cfg) (d : Readings) (r : Controller) (g : Good cfg r) where
+  abbrev GoodOutcome : Outcome → Type 0
+  GoodOutcome o = Good cfg (o .rec)
+
+  guarded : (ws : List Row) (o : Outcome) → (Clear ws → GoodOutcome o) → GoodOutcome (unless ws r o)
+  guarded ws o f = by-unless GoodOutcome ws r o (λ n. g) f
+
+  -- a stored limit, then its pull
+  heat-limit : (a : Attrs) (code : ℕ) → LimitTests cfg (a .settings) → soundCooling cfg (a .settings) ≡ true → isSupportedSystemMode cfg (a .settings .mode) ≡ true → GoodOutcome (applied cfg d (andThen (limitStored cfg r a code) (pullHeating cfg d)))
+  heat-limit a code t c m = applied-good cfg v d _ (heating-pulled cfg v d (withAttrs r a) (record { limits = t; mode = m; last = g .last }) c)
+
+  cool-limit : (a : Attrs) (code : ℕ) → LimitTests cfg (a .settings) → soundHeating cfg (a .settings) ≡ true → isSupportedSystemMode cfg (a .settings .mode) ≡ true → GoodOutcome (applied cfg d (andThen (limitStored cfg r a code) (pullCooling cfg d)))
+  cool-limit a code t h m = applied-good cfg v d _ (cooling-pulled cfg v d (withAttrs r a) (record { limits = t; mode = m; last = g .last }) h)
+
+  pub step-good : (k : Call) → GoodOutcome (step cfg r d k)
+  unfolding step writeOccupiedHeatingSetpoint writeOccupiedCoolingSetpoint writeMinHeatSetpointLimit writeMaxHeatSetpointLimit writeMinCoolSetpointLimit writeMaxCoolSetpointLimit writeSystemMode setControlSequenceOfOperation raiseLowerSetpoint armClock outOfBandMessage seedEvents sweep timer deadline soundHeating soundCooling inHeatLimits inCoolLimits minHeatSetpoint maxHeatSetpoint minCoolSetpoint maxCoolSetpoint
+  step-good (WriteOccupiedHeatingSetpoint x) =
+      guarded _ _ (λ c. applied-good cfg v d _ (heating-stored cfg v d external x r (rest cfg r g) (g .placed .cooling) (not-false (inHeatLimits cfg (r .attrs .settings) x) (c .1 .1 .0))))
+  step-good (WriteOccupiedCoolingSetpoint x) =
+      guarded _ _ (λ c. applied-good cfg v d _ (cooling-stored cfg v d external x r (rest cfg r g) (g .placed .heating) (not-false (inCoolLimits cfg (r .attrs .settings) x) (c .1 .1 .0))))
+  step-good (WriteMinHeatSetpointLimit x) = guarded _ _ (λ c. heat-limit (setMinHeat (r .attrs) x) 0x15 (min-heat-tests cfg v r g x c) (g .placed .cooling) (g .mode))
+  step-good (WriteMaxHeatSetpointLimit x) = guarded _ _ (λ c. heat-limit (setMaxHeat (r .attrs) x) 0x16 (max-heat-tests cfg v r g x c) (g .placed .cooling) (g .mode))
+  step-good (WriteMinCoolSetpointLimit x) = guarded _ _ (λ c. cool-limit (setMinCool (r .attrs) x) 0x17 (min-cool-tests cfg v r g x c) (g .placed .heating) (g .mode))
+  step-good (WriteMaxCoolSetpointLimit x) = guarded _ _ (λ c. cool-limit (setMaxCool (r .attrs) x) 0x18 (max-cool-tests cfg v r g x c) (g .placed .heating) (g .mode))
+  step-good (WriteSystemMode m) =
+      guarded _ _ (λ c. applied-good cfg v d (unchanged (withAttrs r (setMode (r .attrs) m))) (mode-stored cfg v d m r (not-false (isSupportedSystemMode cfg m) (c .1 .0)) g))
+  step-good (SetControlSequenceOfOperation m) = guarded _ _ (λ c. g)
+  step-good (RaiseLowerSetpoint mode amount) =
+      guarded _ _ (λ c. by-unless GoodOutcome _ (armedClock cfg d r) _ (λ n. armed-good cfg v d r g) (λ k. applied-good cfg v d _ (sides-raised cfg v d mode amount _ (armed-good cfg v d r g))))
+  step-good ArmClock = guarded _ _ (λ c. armed-good cfg v d r g)
+  step-good (OutOfBand m) = guarded _ _ (λ c. message-good cfg v d r m g)
+  step-good SeedEvents = guarded _ _ (λ c. started-good cfg v d r g)
+  step-good Sweep = guarded _ _ (λ c. swept-good cfg v d r (c .1 .0) g)
+  step-good Timer = guarded _ _ (λ c. events-good cfg v d r (c .1 .0) g)
+  step-good Deadline = guarded _ _ (λ c. g)
+
+pub step-sound : StepSound
+step-sound cfg r d k e =
+    let a = sound-accepted cfg r e in
+    is-good cfg (step cfg r d k .rec) a (step-good cfg (valid cfg a) d r (good cfg r e) k)
+
+pub opened-good : (cfg : Config) (s : Settings) → accepted cfg ≡ true → Good cfg (opened cfg s .rec)
+unfolding opened askSweep
+opened-good cfg s a =
+    let k = repair-placed cfg (valid cfg a) (record { settings = s; dirty = false }) in rw a (record { placed = k .0; mode = k .1; last = refl })
+
+pub opened-sound : OpenedSound
+opened-sound cfg s a = is-good cfg (opened cfg s .rec) a (opened-good cfg s a)

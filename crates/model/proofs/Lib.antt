@@ -1,4 +1,3 @@
-pub mod Cases
 pub mod Packing
 pub mod Logic
 pub mod Bounds
@@ -7,3 +6,4 @@ pub mod Valid
 pub mod Chain
 pub mod Repair
 pub mod Kept
+pub mod Band

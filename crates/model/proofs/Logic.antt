@@ -40,10 +40,22 @@ pub not-false : (a : Bool) → not a ≡ false → a ≡ true
 not-false true e = refl
 not-false false e = sym e
 
+pub or-right : (a b : Bool) → b ≡ true → a || b ≡ true
+or-right true b e = refl
+or-right false b e = e
+
+pub or-left : (a b : Bool) → a ≡ true → a || b ≡ true
+or-left a b e = simp e
+
 -- of `a && b` false: a rules b out
 pub not-both : (a b : Bool) → a && b ≡ false → a ≡ true → b ≡ false
 not-both true b e f = e
 not-both false b e f = cc
+
+-- a test that is both
+pub clash : {X : Type 0} (b : Bool) → b ≡ true → b ≡ false → X
+clash true e f = let z : _≡_ {A = ℕ} 0 1 = cc in absurd (omega arith)
+clash false e f = let z : _≡_ {A = ℕ} 0 1 = cc in absurd (omega arith)
 
 -- a fact about a pick, from its two cases
 pub by-cond {ℓ} : {X : Type 0} (P : X → Type ℓ) (b : Bool) (x y : X) → (b ≡ true → P x) → (b ≡ false → P y) → P (cond b x y)
@@ -60,6 +72,14 @@ unfolding unless
 by-unless P [] r o f g = g tt
 by-unless P (w ∷ ws) r o f g =
     by-cond P (w .cause) (quiet (w .number) r) (unless ws r o) (λ e. f (w .number)) (λ e. by-unless P ws r o f (λ c. g (e, c)))
+
+-- the same, knowing that a refusal's number is not 0
+pub by-refusal {ℓ} : (P : Outcome → Type ℓ) (ws : List Row) (r : Controller) (o : Outcome) → numbered ws ≡ true → ((n : ℕ) → eqb n 0 ≡ false → P (quiet n r)) → (Clear ws → P o) → P (unless ws r o)
+unfolding unless
+by-refusal P [] r o m f g = g tt
+by-refusal P (w ∷ ws) r o m f g =
+    let b = both (ltb 0 (w .number)) (numbered ws) m in
+    by-cond P (w .cause) (quiet (w .number) r) (unless ws r o) (λ e. f (w .number) (ne-eqb (w .number) 0 (λ z. omega (arith, ltb-true 0 (w .number) (b .0))))) (λ e. by-refusal P ws r o (b .1) f (λ c. g (e, c)))
 
 -- a first failure 0 says that no cause is there
 passed : (t : Bool) (n m : ℕ) → ltb 0 n ≡ true → cond t n m ≡ 0 → (t ≡ false) × (m ≡ 0)

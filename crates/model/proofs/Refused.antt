@@ -14,7 +14,8 @@ use Rattle.model.specs.Writes.{applied, namesAbsentSide, raiseSides, wri
 use Rattle.model.specs.Messages.{messageTaken, heatingMessage, coolingMessage, modeMessage, limitsMessage, outOfBandMessage}
 use Rattle.model.specs.Sweep.{noticeTable, tableNotices, sweepEvents, swept, notify, sweep, timer, seedEvents, deadline}
 use Rattle.model.specs.Step.{step}
-use Rattle.model.specs.Laws.{Refused, DoneOrRefused}
+use Rattle.model.specs.Laws.{Refused, DoneOrRefused, UnsoundRefused}
+use Rattle.model.specs.Sound.{sound, unsound}
 use Rattle.model.specs.declared.Config.{Config}
 use Rattle.model.specs.declared.Controller.{Controller}
 use Rattle.model.specs.declared.Readings.{Readings}
@@ -75,3 +76,26 @@ done-or-refused cfg r d SeedEvents = guarded cfg r d _ _ (inl refl)
 done-or-refused cfg r d Sweep = guarded cfg r d _ _ (inl (swept-done cfg r d))
 done-or-refused cfg r d Timer = guarded cfg r d _ _ (inl refl)
 done-or-refused cfg r d Deadline = guarded cfg r d _ _ (inl refl)
+
+-- 28 first
+first-28 : (cfg : Config) (r : Controller) (ws : List Row) (o : Outcome) → sound cfg r ≡ false → unless (unsound cfg r ∷ ws) r o ≡ quiet 28 r
+unfolding unless
+first-28 cfg r ws o e = simp e
+
+pub unsound-refused : UnsoundRefused
+unfolding step writeOccupiedHeatingSetpoint writeOccupiedCoolingSetpoint writeMinHeatSetpointLimit writeMaxHeatSetpointLimit writeMinCoolSetpointLimit writeMaxCoolSetpointLimit writeSystemMode setControlSequenceOfOperation raiseLowerSetpoint armClock outOfBandMessage seedEvents sweep timer deadline
+unsound-refused cfg r d (WriteOccupiedHeatingSetpoint v) e = first-28 cfg r _ _ e
+unsound-refused cfg r d (WriteOccupiedCoolingSetpoint v) e = first-28 cfg r _ _ e
+unsound-refused cfg r d (WriteMinHeatSetpointLimit v) e = first-28 cfg r _ _ e
+unsound-refused cfg r d (WriteMaxHeatSetpointLimit v) e = first-28 cfg r _ _ e
+unsound-refused cfg r d (WriteMinCoolSetpointLimit v) e = first-28 cfg r _ _ e
+unsound-refused cfg r d (WriteMaxCoolSetpointLimit v) e = first-28 cfg r _ _ e
+unsound-refused cfg r d (WriteSystemMode v) e = first-28 cfg r _ _ e
+unsound-refused cfg r d (SetControlSequenceOfOperation v) e = first-28 cfg r _ _ e
+unsound-refused cfg r d (RaiseLowerSetpoint mode amount) e = first-28 cfg r _ _ e
+unsound-refused cfg r d ArmClock e = first-28 cfg r _ _ e
+unsound-refused cfg r d (OutOfBand m) e = first-28 cfg r _ _ e
+unsound-refused cfg r d SeedEvents e = first-28 cfg r _ _ e
+unsound-refused cfg r d Sweep e = first-28 cfg r _ _ e
+unsound-refused cfg r d Timer e = first-28 cfg r _ _ e
+unsound-refused cfg r d Deadline e = first-28 cfg r _ _ e

@@ -20,7 +20,7 @@ use Rattle.model.specs.Sound.{soundHeatLimits, soundCoolLimits, soundGap
 use Rattle.model.specs.declared.Config.{Config}
 use Rattle.model.specs.declared.Attrs.{Attrs}
 use Rattle.model.specs.declared.Settings.{Settings}
-use Rattle.model.proofs.Logic.{both, and-true, implies, by-cond}
+use Rattle.model.proofs.Logic.{both, and-true, implies, by-cond, clash}
 use Rattle.model.proofs.Valid.{Valid}
 use Rattle.model.proofs.Chain.{Ordered, LimitTests, Placed, is-heat-ordered, is-cool-ordered, is-gaps, in-force, heat-clamped, cool-clamped}
 
@@ -66,10 +66,6 @@ module _ (d lo hi mi ma mc xc : ℤ) (o : Ordered lo mi ma hi) (c : mc ≤ℤ xc
       let x = clampZ (xc -ℤ d) mi ma in
       let a = clamp-below (xc -ℤ d) (xc -ℤ d) mi ma (omega linear) (omega (linear, sum-parts mi d, diff-parts xc d)) in
       omega (linear, sum-parts x d, diff-parts xc d)
-
-clash : {X : Type 0} (b : Bool) → b ≡ true → b ≡ false → X
-clash true e f = let z : _≡_ {A = ℕ} 0 1 = cc in absurd (omega arith)
-clash false e f = let z : _≡_ {A = ℕ} 0 1 = cc in absurd (omega arith)
 
 module _ (cfg : Config) (v : Valid cfg) where
   abbrev HeatOrdered : Attrs → Type 0
@@ -145,7 +141,7 @@ module _ (cfg : Config) (v : Valid cfg) where
         high = λ e h. clash (auto cfg && hasHeatLimits cfg) (and-true (auto cfg) (hasHeatLimits cfg) e h) f;
       })
 
-  limits-repaired : (a : Attrs) → LimitTests cfg (repairLimits cfg a .settings)
+  pub limits-repaired : (a : Attrs) → LimitTests cfg (repairLimits cfg a .settings)
   unfolding repairLimits
   limits-repaired a =
       let b = clampMaxHeat cfg (clampMinHeat cfg a) in
@@ -159,7 +155,7 @@ module _ (cfg : Config) (v : Valid cfg) where
   unfolding soundHeatLimits soundCoolLimits soundGap
   limits-same a h c t = record { heat = t .heat; cool = t .cool; gap = t .gap }
 
-  abbrev Set : Attrs → Type 0
+  abbrev pub Set : Attrs → Type 0
   Set a = Placed cfg (a .settings)
 
   -- a heating setpoint clamped to the limits in force, whatever it was
@@ -217,14 +213,22 @@ module _ (cfg : Config) (v : Valid cfg) where
       let h = clampHeatSetpoint cfg (a .settings) w in
       record { limits = limits-same a h (a .settings .cooling) (k .limits); heating = heating-set a w (k .limits); cooling = cooling-past a h (k .cooling) }
 
+  pub cooling-pushed : (b : Attrs) → Set b → Set (pushCooling cfg b)
+  unfolding pushCooling
+  cooling-pushed b k =
+      by-cond Set (auto cfg) _ b (λ e. cooling-moved b (greater (widened (b .settings .cooling)) (plus (b .settings .heating) (deadBand cfg))) k) (λ f. k)
+
+  heating-pushed : (b : Attrs) → Set b → Set (pushHeating cfg b)
+  unfolding pushHeating
+  heating-pushed b k =
+      by-cond Set (auto cfg) _ b (λ e. heating-moved b (lesser (widened (b .settings .heating)) (minus (b .settings .cooling) (deadBand cfg))) k) (λ f. k)
+
+  pub setpoints-clamped : (a : Attrs) → LimitTests cfg (a .settings) → Set (clampCooling cfg (clampHeating cfg a))
+  setpoints-clamped a t = cooling-clamped (clampHeating cfg a) (heating-clamped a t)
+
   setpoints-repaired : (a : Attrs) → LimitTests cfg (a .settings) → Set (repairSetpoints cfg a)
-  unfolding repairSetpoints pushCooling pushHeating
-  setpoints-repaired a t =
-      let b = clampCooling cfg (clampHeating cfg a) in
-      let p = cooling-clamped (clampHeating cfg a) (heating-clamped a t) in
-      let q : Set (pushCooling cfg b) = by-cond Set (auto cfg) _ b (λ e. cooling-moved b (greater (widened (b .settings .cooling)) (plus (b .settings .heating) (deadBand cfg))) p) (λ f. p) in
-      let c = pushCooling cfg b in
-      by-cond Set (auto cfg) _ c (λ e. heating-moved c (lesser (widened (c .settings .heating)) (minus (c .settings .cooling) (deadBand cfg))) q) (λ f. q)
+  unfolding repairSetpoints
+  setpoints-repaired a t = let b = clampCooling cfg (clampHeating cfg a) in heating-pushed (pushCooling cfg b) (cooling-pushed b (setpoints-clamped a t))
 
   mode-past : (a : Attrs) (m : ℕ) → Set a → Set (setMode a m)
   unfolding soundHeatLimits soundCoolLimits soundGap soundHeating soundCooling inHeatLimits inCoolLimits minHeatSetpoint maxHeatSetpoint minCoolSetpoint maxCoolSetpoint

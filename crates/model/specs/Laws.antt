@@ -1,7 +1,7 @@
 -- The laws that code and theorem lean on, as statements. Their proofs stand in proofs/.
 use mathlib.Core.Path.{_≡_}
 use mathlib.Core.Logic.{_⊎_}
-use mathlib.Core.Bool.{true}
+use mathlib.Core.Bool.{true, false}
 use Prim.Native.Nat.{_≤_}
 use lib.ListN.{length}
 use Rattle.model.specs.Answers.{Outcome, quiet}
@@ -33,3 +33,7 @@ OpenedSound = (cfg : Config) (s : Settings) → accepted cfg ≡ true → sound 
 
 abbrev pub StepSound : Type 0
 StepSound = (cfg : Config) (r : Controller) (d : Readings) (k : Call) → sound cfg r ≡ true → sound cfg (step cfg r d k .rec) ≡ true
+
+-- 28 comes before every other number, and changes nothing
+abbrev pub UnsoundRefused : Type 0
+UnsoundRefused = (cfg : Config) (r : Controller) (d : Readings) (k : Call) → sound cfg r ≡ false → step cfg r d k ≡ quiet 28 r

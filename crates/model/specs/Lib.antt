@@ -16,3 +16,5 @@ pub mod Sweep
 pub mod Step
 pub mod Plant
 pub mod Laws
+pub mod Cases
+pub mod Claims

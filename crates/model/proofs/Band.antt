@@ -1,0 +1,268 @@
+-- Every setpoint stays in its band, and the gap is kept unless licensed, over whole lists.
+use mathlib.Core.Path.{_≡_, refl, sym, _∙_, subst}
+use mathlib.Core.Bool.{Bool, true, false, not, _&&_, _||_, cond}
+use mathlib.Core.List.{List, [], _∷_}
+use Prim.Native.Nat.{ℕ}
+use lib.Dec.{eqb}
+use lib.IntN.{ℤ, _+ℤ_, _-ℤ_}
+use lib.Signed.{_≤ℤ_, ≤ℤ-refl}
+use borrow.Author.Tests.{not-false}
+use Rattle.integers.specs.Linear.{linear, sum-parts, diff-parts}
+use Rattle.integers.specs.Clamp.{clampZ, maxZ, minZ, max-parts, min-parts, clamp-above, clamp-below, max-right, min-right}
+use Rattle.units.specs.Units.{plus, minus, above, below, widened, greater, lesser, clamped, raised}
+use Rattle.units.specs.declared.Hundredths.{Hundredths}
+use Rattle.units.specs.declared.Tenths.{Tenths}
+use Rattle.model.specs.Records.{changedTo, withAttrs, setHeating, setCooling, setMinHeat, setMaxHeat, setMinCool, setMaxCool, setMode, withPending}
+use Rattle.model.specs.Answers.{Outcome, Stage, quiet, andThen, unchanged}
+use Rattle.model.specs.Refusals.{Row, unless, Clear, numbered}
+use Rattle.model.specs.Served.{heats, cools, auto, serves, listed}
+use Rattle.model.specs.Units.{deadBand}
+use Rattle.model.specs.Limits.{minHeatSetpoint, maxHeatSetpoint, minCoolSetpoint, maxCoolSetpoint, inHeatLimits, inCoolLimits, clampHeatSetpoint, clampCoolSetpoint}
+use Rattle.model.specs.Modes.{isSupportedSystemMode}
+use Rattle.model.specs.Attribution.{external, armedClock, claimSetpoints, servedSetpoints}
+use Rattle.model.specs.Validation.{accepted}
+use Rattle.model.specs.Repair.{clampHeating, clampCooling, pushCooling, pushHeating, repairMode, repairLimits, repairSetpoints, repaired}
+use Rattle.model.specs.Writes.{askSweep, applied, coolingBeside, heatingBeside, storeHeatingSetpoint, storeCoolingSetpoint, pullHeating, pullCooling, limitStored, raiseHeating, raiseCooling, raiseBoth, raiseSides, writeOccupiedHeatingSetpoint, writeOccupiedCoolingSetpoint, writeMinHeatSetpointLimit, writeMaxHeatSetpointLimit, writeMinCoolSetpointLimit, writeMaxCoolSetpointLimit, writeSystemMode, setControlSequenceOfOperation, raiseLowerSetpoint, armClock}
+use Rattle.model.specs.Messages.{messageTaken, heatingMessage, coolingMessage, modeMessage, limitsMessage, limitsTaken, outOfBandMessage}
+use Rattle.model.specs.Sweep.{Taken, snapshotOf, sameSnapshot, localRecorded, attributedTo, attributeLocalSetpointChange, started, takenFrom, takeEvents, sweepEvents, swept, sweep, timer, seedEvents, deadline}
+use Rattle.model.specs.Step.{opened, step}
+use Rattle.model.specs.declared.Config.{Config}
+use Rattle.model.specs.declared.Settings.{Settings}
+use Rattle.model.specs.declared.Attrs.{Attrs}
+use Rattle.model.specs.declared.Shadow.{Shadow}
+use Rattle.model.specs.declared.Shadow.the-variants.{Unseeded, Seeded}
+use Rattle.model.specs.declared.Attributed.{Attributed}
+use Rattle.model.specs.declared.Attributed.the-variants.{Unclaimed, Claimed}
+use Rattle.model.specs.declared.Controller.{Controller}
+use Rattle.model.specs.declared.Readings.{Readings}
+use Rattle.model.specs.declared.OutOfBandMessage.{OutOfBandMessage}
+use Rattle.model.specs.declared.OutOfBandMessage.the-variants.{LocalTemperature, RunningState, Update, OccupiedHeatingSetpoint, OccupiedCoolingSetpoint, SystemMode, SetpointLimits}
+use Rattle.model.specs.declared.Call.{Call}
+use Rattle.model.specs.declared.Call.the-variants.{WriteOccupiedHeatingSetpoint, WriteOccupiedCoolingSetpoint, WriteMinHeatSetpointLimit, WriteMaxHeatSetpointLimit, WriteMinCoolSetpointLimit, WriteMaxCoolSetpointLimit, WriteSystemMode, SetControlSequenceOfOperation, RaiseLowerSetpoint, ArmClock, OutOfBand, SeedEvents, Sweep, Timer, Deadline}
+use Rattle.model.specs.Claims.{Entry, after, number, run, licenceAfter, licensed, GapKept, InBand, Band}
+use Rattle.model.proofs.Logic.{clash, not-both, by-cond, by-refusal}
+use Rattle.model.proofs.Valid.{Valid, valid}
+use Rattle.model.proofs.Chain.{InForce, LimitTests, Placed, inside, apart, in-force, heat-clamped, cool-clamped}
+use Rattle.model.proofs.Repair.{limits-repaired, setpoints-clamped, cooling-pushed}
+use Rattle.model.proofs.Kept.{Good, step-good, opened-good, raised-heat, raised-cool, heat-raised, armed-good, min-heat-tests, max-heat-tests, min-cool-tests, max-cool-tests, far, heating-inside, cooling-inside}
+
+module _ (cfg : Config) (s : Settings) (k : InForce cfg s) where
+  -- a heating value within its limits, and cooling beside it
+  heating-gap : (h : Hundredths) → inHeatLimits cfg s h ≡ true → auto cfg ≡ true → (h .0 +ℤ deadBand cfg .0) ≤ℤ coolingBeside cfg s h .0
+  unfolding coolingBeside clampCoolSetpoint inHeatLimits clamped plus
+  heating-gap h e a =
+      let d = deadBand cfg in
+      let i = inside h (minHeatSetpoint cfg s) (maxHeatSetpoint cfg s) e in
+      let u = k .high a in
+      by-cond (λ (x : Hundredths). (h .0 +ℤ d .0) ≤ℤ x .0) (auto cfg && above h (minus (s .cooling) d)) _ (s .cooling)
+      (λ t. clamp-above (h .0 +ℤ d .0) (h .0 +ℤ d .0) (minCoolSetpoint cfg s .0) (maxCoolSetpoint cfg s .0) (≤ℤ-refl (h .0 +ℤ d .0)) (omega (linear, sum-parts (h .0) (d .0), sum-parts (maxHeatSetpoint cfg s .0) (d .0))))
+      (λ t. apart h (s .cooling) d (not-both (auto cfg) _ t a))
+
+  cooling-gap : (c : Hundredths) → inCoolLimits cfg s c ≡ true → auto cfg ≡ true → (heatingBeside cfg s c .0 +ℤ deadBand cfg .0) ≤ℤ c .0
+  unfolding heatingBeside clampHeatSetpoint inCoolLimits clamped minus
+  cooling-gap c e a =
+      let d = deadBand cfg in
+      let i = inside c (minCoolSetpoint cfg s) (maxCoolSetpoint cfg s) e in
+      let u = k .low a in
+      by-cond (λ (x : Hundredths). (x .0 +ℤ d .0) ≤ℤ c .0) (auto cfg && below c (plus (s .heating) d)) _ (s .heating)
+      (λ t. let y = clampZ (c .0 -ℤ d .0) (minHeatSetpoint cfg s .0) (maxHeatSetpoint cfg s .0) in
+      let b = clamp-below (c .0 -ℤ d .0) (c .0 -ℤ d .0) (minHeatSetpoint cfg s .0) (maxHeatSetpoint cfg s .0) (≤ℤ-refl (c .0 -ℤ d .0)) (omega (linear, diff-parts (c .0) (d .0), sum-parts (minHeatSetpoint cfg s .0) (d .0))) in
+      omega (linear, sum-parts y (d .0), diff-parts (c .0) (d .0)))
+      (λ t. far c (s .heating) d (not-both (auto cfg) _ t a))
+
+heating-between : (cfg : Config) (s : Settings) → Placed cfg s → heats cfg ≡ true → (minHeatSetpoint cfg s .0 ≤ℤ s .heating .0) × (s .heating .0 ≤ℤ maxHeatSetpoint cfg s .0)
+unfolding inHeatLimits
+heating-between cfg s p h = inside (s .heating) (minHeatSetpoint cfg s) (maxHeatSetpoint cfg s) (heating-inside cfg s (p .heating) h)
+
+cooling-between : (cfg : Config) (s : Settings) → Placed cfg s → cools cfg ≡ true → (minCoolSetpoint cfg s .0 ≤ℤ s .cooling .0) × (s .cooling .0 ≤ℤ maxCoolSetpoint cfg s .0)
+unfolding inCoolLimits
+cooling-between cfg s p c = inside (s .cooling) (minCoolSetpoint cfg s) (maxCoolSetpoint cfg s) (cooling-inside cfg s (p .cooling) c)
+
+module _ (cfg : Config) (v : Valid cfg) where
+  -- repair closes the gap: its last step lets heating give way to whatever cooling is
+  heat-gap : (b : Attrs) → Placed cfg (b .settings) → GapKept cfg (pushHeating cfg b .settings)
+  unfolding pushHeating clampHeatSetpoint clamped lesser minus widened
+  heat-gap b p a =
+      let s = b .settings in
+      let d = deadBand cfg .0 in
+      let k = in-force cfg s v (p .limits) in
+      let i = cooling-between cfg s p (v .auto-cools a) in
+      let l = k .low a in
+      let w = minZ (s .heating .0) (s .cooling .0 -ℤ d) in
+      let y = clampZ w (minHeatSetpoint cfg s .0) (maxHeatSetpoint cfg s .0) in
+      let z = clamp-below (s .cooling .0 -ℤ d) w (minHeatSetpoint cfg s .0) (maxHeatSetpoint cfg s .0) (min-right (s .heating .0) (s .cooling .0 -ℤ d)) (omega (linear, diff-parts (s .cooling .0) d, sum-parts (minHeatSetpoint cfg s .0) d)) in
+      rw a (omega (linear, sum-parts y d, diff-parts (s .cooling .0) d))
+
+  pub repair-gap : (a : Attrs) → GapKept cfg (repaired cfg a .settings)
+  unfolding repaired repairMode repairSetpoints
+  repair-gap a =
+      let l = repairLimits cfg a in
+      let b = clampCooling cfg (clampHeating cfg l) in
+      let g = heat-gap (pushCooling cfg b) (cooling-pushed cfg v b (setpoints-clamped cfg v l (limits-repaired cfg v a))) in
+      let c = pushHeating cfg (pushCooling cfg b) in
+      by-cond (λ (x : Attrs). GapKept cfg (x .settings)) (isSupportedSystemMode cfg (c .settings .mode)) c (setMode c 0) (λ e. g) (λ e. g)
+
+-- over calls: with a licence given before, what each call leaves
+module _ (cfg : Config) (v : Valid cfg) (d : Readings) where
+  abbrev Gapped : Stage → Type 0
+  Gapped q = GapKept cfg (q .rec .attrs .settings)
+
+  heating-stored-gap : (source : ℕ) (h : Hundredths) (r : Controller) → LimitTests cfg (r .attrs .settings) → inHeatLimits cfg (r .attrs .settings) h ≡ true → Gapped (storeHeatingSetpoint cfg d source h r)
+  unfolding storeHeatingSetpoint claimSetpoints
+  heating-stored-gap source h r t e = heating-gap cfg (r .attrs .settings) (in-force cfg (r .attrs .settings) v t) h e
+
+  cooling-stored-gap : (source : ℕ) (c : Hundredths) (r : Controller) → LimitTests cfg (r .attrs .settings) → inCoolLimits cfg (r .attrs .settings) c ≡ true → Gapped (storeCoolingSetpoint cfg d source c r)
+  unfolding storeCoolingSetpoint claimSetpoints
+  cooling-stored-gap source c r t e = cooling-gap cfg (r .attrs .settings) (in-force cfg (r .attrs .settings) v t) c e
+
+  heating-pulled-gap : (r : Controller) → LimitTests cfg (r .attrs .settings) → GapKept cfg (r .attrs .settings) → Gapped (pullHeating cfg d r)
+  unfolding pullHeating
+  heating-pulled-gap r t g =
+      let s = r .attrs .settings in
+      let w = widened (s .heating) in
+      by-cond Gapped (inHeatLimits cfg s (s .heating)) (unchanged r) _ (λ e. g)
+      (λ e. heating-stored-gap external (clampHeatSetpoint cfg s w) r t (heat-clamped cfg s w (in-force cfg s v t)))
+
+  cooling-pulled-gap : (r : Controller) → LimitTests cfg (r .attrs .settings) → GapKept cfg (r .attrs .settings) → Gapped (pullCooling cfg d r)
+  unfolding pullCooling
+  cooling-pulled-gap r t g =
+      let s = r .attrs .settings in
+      let w = widened (s .cooling) in
+      by-cond Gapped (inCoolLimits cfg s (s .cooling)) (unchanged r) _ (λ e. g)
+      (λ e. cooling-stored-gap external (clampCoolSetpoint cfg s w) r t (cool-clamped cfg s w (in-force cfg s v t)))
+
+  heat-raised-gap : (a : Tenths) (r : Controller) → LimitTests cfg (r .attrs .settings) → Gapped (raiseHeating cfg d a r)
+  unfolding raiseHeating
+  heat-raised-gap a r t = heating-stored-gap external _ r t (raised-heat cfg v d (r .attrs .settings) a (in-force cfg (r .attrs .settings) v t))
+
+  cool-raised-gap : (a : Tenths) (r : Controller) → LimitTests cfg (r .attrs .settings) → Gapped (raiseCooling cfg d a r)
+  unfolding raiseCooling
+  cool-raised-gap a r t = cooling-stored-gap external _ r t (raised-cool cfg v d (r .attrs .settings) a (in-force cfg (r .attrs .settings) v t))
+
+  both-raised-gap : (a : Tenths) (r : Controller) → Good cfg r → Gapped (raiseBoth cfg d a r)
+  unfolding raiseBoth
+  both-raised-gap a r g =
+      let x = cond (heats cfg) (raiseHeating cfg d a r) (unchanged r) in
+      let k : Good cfg (x .rec) = by-cond (λ (q : Stage). Good cfg (q .rec)) (heats cfg) (raiseHeating cfg d a r) (unchanged r) (λ e. heat-raised cfg v d a r g) (λ e. g) in
+      by-cond Gapped (cools cfg) (raiseCooling cfg d a (x .rec)) (unchanged (x .rec)) (λ e. cool-raised-gap a (x .rec) (k .placed .limits)) (λ f u. clash (cools cfg) (v .auto-cools u) f)
+
+  sides-raised-gap : (mode : ℕ) (a : Tenths) (r : Controller) → Good cfg r → Gapped (raiseSides cfg d mode a r)
+  unfolding raiseSides
+  sides-raised-gap mode a r g =
+      by-cond Gapped (eqb mode 0) _ _ (λ e. heat-raised-gap a r (g .placed .limits))
+      (λ e. by-cond Gapped (eqb mode 1) _ _ (λ f. cool-raised-gap a r (g .placed .limits)) (λ f. both-raised-gap a r g))
+
+  applied-gap : (q : Stage) → Gapped q → GapKept cfg (applied cfg d q .rec .attrs .settings)
+  unfolding applied askSweep
+  applied-gap q g = g
+
+  settings-armed : (r : Controller) → armedClock cfg d r .attrs ≡ r .attrs
+  unfolding armedClock
+  settings-armed r = refl
+
+-- the settings that calls without a store of settings leave
+module _ (cfg : Config) (d : Readings) where
+  local-attrs : (r : Controller) (a b : Attributed) → attributedTo cfg d r a b .rec .attrs ≡ r .attrs
+  local-attrs r Unclaimed Unclaimed = refl
+  local-attrs r (Claimed h c) Unclaimed = refl
+  local-attrs r Unclaimed (Claimed h c) = refl
+  local-attrs r (Claimed oldh oldc) (Claimed h c) =
+      by-cond (λ (q : Stage). q .rec .attrs ≡ r .attrs) (changedTo oldh h || changedTo oldc c) (localRecorded cfg d r oldh oldc h c) (unchanged r) (λ e. refl) (λ e. refl)
+
+  taken-attrs : (r : Controller) (s : Shadow) → takenFrom cfg d r s .rec .attrs ≡ r .attrs
+  unfolding started claimSetpoints
+  taken-attrs r Unseeded = refl
+  taken-attrs r (Seeded old) = by-cond (λ (t : Taken). t .rec .attrs ≡ r .attrs) (sameSnapshot old (snapshotOf cfg d r)) _ _ (λ e. refl) (λ e. refl)
+
+  pub events-attrs : (r : Controller) → takeEvents cfg d r .rec .attrs ≡ r .attrs
+  unfolding takeEvents
+  events-attrs r = taken-attrs r (r .events .shadow)
+
+  pub swept-attrs : (r : Controller) → swept cfg d r .rec .attrs ≡ r .attrs
+  unfolding swept sweepEvents attributeLocalSetpointChange armedClock
+  swept-attrs r =
+      let q = armedClock cfg d (withPending r 0) in
+      by-cond (λ (o : Outcome). o .rec .attrs ≡ r .attrs) (eqb (r .pending) 0) (quiet 0 r) _ (λ f. refl)
+      (λ f. by-cond (λ (o : Outcome). o .rec .attrs ≡ r .attrs) (listed (r .pending) 9) _ _
+      (λ h. events-attrs _ ∙ local-attrs q (q .change .attributed) (servedSetpoints cfg (q .attrs .settings))) (λ h. refl))
+
+either-way : (t b : Bool) → cond t b b ≡ false → b ≡ false
+either-way true b e = e
+either-way false b e = e
+
+-- one call: what its licence leaves open
+module _ (cfg : Config) (v : Valid cfg) (d : Readings) (r : Controller) (g : Good cfg r) (b : Bool) (old : b ≡ false → GapKept cfg (r .attrs .settings)) where
+  abbrev Licensed : Call → Outcome → Type 0
+  Licensed k o = cond (eqb (o .number) 0) (licenceAfter b k) b ≡ false → GapKept cfg (o .rec .attrs .settings)
+
+  -- a refusal keeps settings and licence
+  guarded : (k : Call) (q : Controller) (ws : List Row) (o : Outcome) → q .attrs ≡ r .attrs → numbered ws ≡ true → (Clear ws → Licensed k o) → Licensed k (unless ws q o)
+  guarded k q ws o e m f =
+      by-refusal (Licensed k) ws q o m (λ n z l. subst (λ (a : Attrs). GapKept cfg (a .settings)) (sym e) (old (simp z at l))) f
+
+  message-gap : (m : OutOfBandMessage) → Licensed (OutOfBand m) (messageTaken cfg r m)
+  unfolding heatingMessage coolingMessage modeMessage limitsMessage askSweep
+  message-gap LocalTemperature l = old l
+  message-gap RunningState l = old l
+  message-gap Update l = old l
+  message-gap (OccupiedHeatingSetpoint w) l = clash true refl l
+  message-gap (OccupiedCoolingSetpoint w) l = clash true refl l
+  message-gap (SystemMode m) l = guarded (OutOfBand (SystemMode m)) r _ _ refl refl (λ c l. old l) l
+  message-gap (SetpointLimits x y z u) l = repair-gap cfg v (limitsTaken cfg (r .attrs) x y z u)
+
+  -- a stored limit, and what it pulls
+  heat-limit-gap : (a : Attrs) → LimitTests cfg (a .settings) → GapKept cfg (a .settings) → (code : ℕ) → GapKept cfg (applied cfg d (andThen (limitStored cfg r a code) (pullHeating cfg d)) .rec .attrs .settings)
+  heat-limit-gap a t k code = applied-gap cfg v d _ (heating-pulled-gap cfg v d (withAttrs r a) t k)
+
+  cool-limit-gap : (a : Attrs) → LimitTests cfg (a .settings) → GapKept cfg (a .settings) → (code : ℕ) → GapKept cfg (applied cfg d (andThen (limitStored cfg r a code) (pullCooling cfg d)) .rec .attrs .settings)
+  cool-limit-gap a t k code = applied-gap cfg v d _ (cooling-pulled-gap cfg v d (withAttrs r a) t k)
+
+  pub step-gap : (k : Call) → Licensed k (step cfg r d k)
+  unfolding step writeOccupiedHeatingSetpoint writeOccupiedCoolingSetpoint writeMinHeatSetpointLimit writeMaxHeatSetpointLimit writeMinCoolSetpointLimit writeMaxCoolSetpointLimit writeSystemMode setControlSequenceOfOperation raiseLowerSetpoint armClock outOfBandMessage seedEvents sweep timer deadline applied askSweep started claimSetpoints
+  step-gap (WriteOccupiedHeatingSetpoint x) =
+      guarded (WriteOccupiedHeatingSetpoint x) r _ _ refl refl (λ c l. heating-stored-gap cfg v d external x r (g .placed .limits) (not-false (inHeatLimits cfg (r .attrs .settings) x) (c .1 .1 .0)))
+  step-gap (WriteOccupiedCoolingSetpoint x) =
+      guarded (WriteOccupiedCoolingSetpoint x) r _ _ refl refl (λ c l. cooling-stored-gap cfg v d external x r (g .placed .limits) (not-false (inCoolLimits cfg (r .attrs .settings) x) (c .1 .1 .0)))
+  step-gap (WriteMinHeatSetpointLimit x) = guarded (WriteMinHeatSetpointLimit x) r _ _ refl refl (λ c l. heat-limit-gap (setMinHeat (r .attrs) x) (min-heat-tests cfg v r g x c) (old l) 0x15)
+  step-gap (WriteMaxHeatSetpointLimit x) = guarded (WriteMaxHeatSetpointLimit x) r _ _ refl refl (λ c l. heat-limit-gap (setMaxHeat (r .attrs) x) (max-heat-tests cfg v r g x c) (old l) 0x16)
+  step-gap (WriteMinCoolSetpointLimit x) = guarded (WriteMinCoolSetpointLimit x) r _ _ refl refl (λ c l. cool-limit-gap (setMinCool (r .attrs) x) (min-cool-tests cfg v r g x c) (old l) 0x17)
+  step-gap (WriteMaxCoolSetpointLimit x) = guarded (WriteMaxCoolSetpointLimit x) r _ _ refl refl (λ c l. cool-limit-gap (setMaxCool (r .attrs) x) (max-cool-tests cfg v r g x c) (old l) 0x18)
+  step-gap (WriteSystemMode m) = guarded (WriteSystemMode m) r _ _ refl refl (λ c l. old l)
+  step-gap (SetControlSequenceOfOperation m) = guarded (SetControlSequenceOfOperation m) r _ _ refl refl (λ c l. old l)
+  step-gap (RaiseLowerSetpoint mode amount) =
+      let q = armedClock cfg d r in
+      guarded (RaiseLowerSetpoint mode amount) r _ _ refl refl (λ c. guarded (RaiseLowerSetpoint mode amount) q _ _ (settings-armed cfg v d r) refl (λ e l. sides-raised-gap cfg v d mode amount q (armed-good cfg v d r g)))
+  step-gap ArmClock = guarded ArmClock r _ _ refl refl (λ c l. subst (λ (a : Attrs). GapKept cfg (a .settings)) (sym (settings-armed cfg v d r)) (old l))
+  step-gap (OutOfBand m) = guarded (OutOfBand m) r _ _ refl refl (λ c. message-gap m)
+  step-gap SeedEvents = guarded SeedEvents r _ _ refl refl (λ c l. old l)
+  step-gap Sweep = guarded Sweep r _ _ refl refl (λ c l. subst (λ (a : Attrs). GapKept cfg (a .settings)) (sym (swept-attrs cfg d r)) (old (either-way (eqb (swept cfg d r .number) 0) b l)))
+  step-gap Timer = guarded Timer r _ _ refl refl (λ c l. subst (λ (a : Attrs). GapKept cfg (a .settings)) (sym (events-attrs cfg d r)) (old l))
+  step-gap Deadline = guarded Deadline r _ _ refl refl (λ c l. old l)
+
+-- whole lists
+module _ (cfg : Config) (v : Valid cfg) where
+  run-good : (l : List Entry) (r : Controller) → Good cfg r → Good cfg (run cfg r l)
+  unfolding run
+  run-good [] r g = g
+  run-good (e ∷ l) r g = run-good l (after cfg r e) (step-good cfg v (e .readings) r g (e .call))
+
+  run-gap : (l : List Entry) (r : Controller) (b : Bool) → Good cfg r → (b ≡ false → GapKept cfg (r .attrs .settings)) → licensed cfg r b l ≡ false → GapKept cfg (run cfg r l .attrs .settings)
+  unfolding run licensed
+  run-gap [] r b g k z = k z
+  run-gap (e ∷ l) r b g k z =
+      run-gap l (after cfg r e) (cond (eqb (number cfg r e) 0) (licenceAfter b (e .call)) b) (step-good cfg v (e .readings) r g (e .call)) (step-gap cfg v (e .readings) r g b k (e .call)) z
+
+opened-gap : (cfg : Config) (s : Settings) → accepted cfg ≡ true → GapKept cfg (opened cfg s .rec .attrs .settings)
+unfolding opened askSweep
+opened-gap cfg s a = rw a (repair-gap cfg (valid cfg a) (record { settings = s; dirty = false }))
+
+pub band : Band
+band cfg s l a =
+    let v = valid cfg a in
+    let g = opened-good cfg s a in
+    let p = run-good cfg v l (opened cfg s .rec) g .placed in
+    let q = run cfg (opened cfg s .rec) l .attrs .settings in
+    (
+      record { heating = λ e. heating-between cfg q p (sym (v .heating-served) ∙ e); cooling = λ e. cooling-between cfg q p (sym (v .cooling-served) ∙ e) },
+      run-gap cfg v l (opened cfg s .rec) false g (λ e. opened-gap cfg s a),
+    )

@@ -1,0 +1,174 @@
+-- The whole-list theorem: agreement of two controllers, and the band of one. docs/THEOREM.md says the same in plain words.
+use mathlib.Core.Path.{_≡_}
+use mathlib.Core.Bool.{Bool, true, false, cond}
+use mathlib.Core.List.{List, [], _∷_, _++_}
+use Prim.Native.Nat.{ℕ}
+use lib.Dec.{eqb}
+use lib.IntN.{_+ℤ_}
+use lib.Signed.{_≤ℤ_}
+use Rattle.units.specs.declared.Hundredths.{Hundredths}
+use Rattle.model.specs.Served.{auto, serves}
+use Rattle.model.specs.Units.{deadBand}
+use Rattle.model.specs.Limits.{minHeatSetpoint, maxHeatSetpoint, minCoolSetpoint, maxCoolSetpoint}
+use Rattle.model.specs.Validation.{accepted}
+use Rattle.model.specs.Step.{opened, step}
+use Rattle.model.specs.declared.Config.{Config}
+use Rattle.model.specs.declared.Settings.{Settings}
+use Rattle.model.specs.declared.Controller.{Controller}
+use Rattle.model.specs.declared.Readings.{Readings}
+use Rattle.model.specs.declared.OutOfBandMessage.{OutOfBandMessage}
+use Rattle.model.specs.declared.OutOfBandMessage.the-variants.{LocalTemperature, RunningState, Update, OccupiedHeatingSetpoint, OccupiedCoolingSetpoint, SystemMode, SetpointLimits}
+use Rattle.model.specs.declared.Call.{Call}
+use Rattle.model.specs.declared.Call.the-variants.{WriteOccupiedHeatingSetpoint, WriteOccupiedCoolingSetpoint, WriteMinHeatSetpointLimit, WriteMaxHeatSetpointLimit, WriteMinCoolSetpointLimit, WriteMaxCoolSetpointLimit, WriteSystemMode, SetControlSequenceOfOperation, RaiseLowerSetpoint, ArmClock, OutOfBand, SeedEvents, Sweep, Timer, Deadline}
+
+-- an entry of a list: any call, with the readings handed in
+pub record Entry : Type 0 where
+  pub call : Call
+  pub readings : Readings
+
+abbrev pub entry : Call → Readings → Entry
+entry k d = record { call = k; readings = d }
+
+abbrev pub after : Config → Controller → Entry → Controller
+after cfg r e = step cfg r (e .readings) (e .call) .rec
+
+abbrev pub number : Config → Controller → Entry → ℕ
+number cfg r e = step cfg r (e .readings) (e .call) .number
+
+-- a list of calls: each gets the record that the last one returned
+unfoldable pub run : Config → Controller → List Entry → Controller
+run cfg r [] = r
+run cfg r (e ∷ l) = run cfg (after cfg r e) l
+
+unfoldable pub numbers : Config → Controller → List Entry → List ℕ
+numbers cfg r [] = []
+numbers cfg r (e ∷ l) = number cfg r e ∷ numbers cfg (after cfg r e) l
+
+-- every call of a list is accepted
+abbrev pub AllAccepted : Config → Controller → List Entry → Type 0
+AllAccepted cfg r [] = Unit {0}
+AllAccepted cfg r (e ∷ l) = (number cfg r e ≡ 0) × AllAccepted cfg (after cfg r e) l
+
+-- equal limits in force
+pub record EqualLimits (cfg : Config) (s t : Settings) : Type 0 where
+  pub min-heat : minHeatSetpoint cfg s ≡ minHeatSetpoint cfg t
+  pub max-heat : maxHeatSetpoint cfg s ≡ maxHeatSetpoint cfg t
+  pub min-cool : minCoolSetpoint cfg s ≡ minCoolSetpoint cfg t
+  pub max-cool : maxCoolSetpoint cfg s ≡ maxCoolSetpoint cfg t
+
+-- equal served setpoints
+pub record EqualSetpoints (cfg : Config) (s t : Settings) : Type 0 where
+  pub heating : serves cfg 0x12 ≡ true → s .heating ≡ t .heating
+  pub cooling : serves cfg 0x11 ≡ true → s .cooling ≡ t .cooling
+
+pub record Agree (cfg : Config) (q r : Controller) : Type 0 where
+  pub limits : EqualLimits cfg (q .attrs .settings) (r .attrs .settings)
+  pub setpoints : EqualSetpoints cfg (q .attrs .settings) (r .attrs .settings)
+  pub mode : q .attrs .settings .mode ≡ r .attrs .settings .mode
+
+-- the settings that a limits message carries, and one as an entry
+abbrev pub limitsEntry : Hundredths → Hundredths → Hundredths → Hundredths → Readings → Entry
+limitsEntry a b c e d = entry (OutOfBand (SetpointLimits a b c e)) d
+
+-- writes of each served setpoint with no call between them: either order, or one write where one side is served
+pub data Adjacent (cfg : Config) : List Entry → Type 0 where
+  heating-cooling : (h c : Hundredths) (d e : Readings) → Adjacent cfg (entry (WriteOccupiedHeatingSetpoint h) d ∷ entry (WriteOccupiedCoolingSetpoint c) e ∷ [])
+  cooling-heating : (c h : Hundredths) (d e : Readings) → Adjacent cfg (entry (WriteOccupiedCoolingSetpoint c) d ∷ entry (WriteOccupiedHeatingSetpoint h) e ∷ [])
+  heating-only : (h : Hundredths) (d : Readings) → serves cfg 0x11 ≡ false → Adjacent cfg (entry (WriteOccupiedHeatingSetpoint h) d ∷ [])
+  cooling-only : (c : Hundredths) (d : Readings) → serves cfg 0x12 ≡ false → Adjacent cfg (entry (WriteOccupiedCoolingSetpoint c) d ∷ [])
+
+-- a list that has a limits message, and later the adjacent writes, accepted by the controller r
+pub record LimitsThenWrites (cfg : Config) (r : Controller) (l : List Entry) : Type 0 where
+  pub before : List Entry
+  pub minheat : Hundredths
+  pub maxheat : Hundredths
+  pub mincool : Hundredths
+  pub maxcool : Hundredths
+  pub readings : Readings
+  pub between : List Entry
+  pub writes : List Entry
+  pub later : List Entry
+  pub whole : l ≡ before ++ (limitsEntry minheat maxheat mincool maxcool readings ∷ (between ++ (writes ++ later)))
+  pub adjacent : Adjacent cfg writes
+  pub taken : AllAccepted cfg (run cfg r (before ++ (limitsEntry minheat maxheat mincool maxcool readings ∷ between))) writes
+
+-- a list that has a mode write, accepted by the controller r
+pub record ModeWritten (cfg : Config) (r : Controller) (l : List Entry) : Type 0 where
+  pub before : List Entry
+  pub mode : ℕ
+  pub readings : Readings
+  pub later : List Entry
+  pub whole : l ≡ before ++ (entry (WriteSystemMode mode) readings ∷ later)
+  pub taken : number cfg (run cfg r before) (entry (WriteSystemMode mode) readings) ≡ 0
+
+-- Agreement. Two controllers open on one accepted configuration, each on its own settings, and get the same list. Once it has these three,
+-- accepted by one of them, both agree, and so they do after every longer list; every later call gives equal numbers
+abbrev pub Agreement : Type 0
+Agreement =
+    (cfg : Config) (s t : Settings) (l m : List Entry) → accepted cfg ≡ true
+    → LimitsThenWrites cfg (opened cfg s .rec) l → ModeWritten cfg (opened cfg s .rec) l
+    → Agree cfg (run cfg (opened cfg s .rec) (l ++ m)) (run cfg (opened cfg t .rec) (l ++ m))
+    × (numbers cfg (run cfg (opened cfg s .rec) l) m ≡ numbers cfg (run cfg (opened cfg t .rec) l) m)
+
+-- The stronger facts that carry it. From the limits message on: equal limits, and equal numbers
+abbrev pub LimitsAgree : Type 0
+LimitsAgree =
+    (cfg : Config) (s t : Settings) (l m : List Entry) (a b c e : Hundredths) (d : Readings) → accepted cfg ≡ true
+    → EqualLimits cfg (run cfg (opened cfg s .rec) (l ++ (limitsEntry a b c e d ∷ m)) .attrs .settings) (run cfg (opened cfg t .rec) (l ++ (limitsEntry a b c e d ∷ m)) .attrs .settings)
+    × (numbers cfg (run cfg (opened cfg s .rec) (l ++ (limitsEntry a b c e d ∷ []))) m ≡ numbers cfg (run cfg (opened cfg t .rec) (l ++ (limitsEntry a b c e d ∷ []))) m)
+
+-- from an accepted mode write on: equal modes
+abbrev pub ModesAgree : Type 0
+ModesAgree =
+    (cfg : Config) (s t : Settings) (l : List Entry) → accepted cfg ≡ true → ModeWritten cfg (opened cfg s .rec) l
+    → run cfg (opened cfg s .rec) l .attrs .settings .mode ≡ run cfg (opened cfg t .rec) l .attrs .settings .mode
+
+-- from the adjacent writes on: equal served setpoints
+abbrev pub SetpointsAgree : Type 0
+SetpointsAgree =
+    (cfg : Config) (s t : Settings) (l : List Entry) → accepted cfg ≡ true → LimitsThenWrites cfg (opened cfg s .rec) l
+    → EqualSetpoints cfg (run cfg (opened cfg s .rec) l .attrs .settings) (run cfg (opened cfg t .rec) l .attrs .settings)
+
+-- The licence of a short gap: opened by an accepted out-of-band setpoint, ended by the next accepted setpoint write, raise/lower or limits message
+abbrev pub licenceAfter : Bool → Call → Bool
+licenceAfter b (WriteOccupiedHeatingSetpoint v) = false
+licenceAfter b (WriteOccupiedCoolingSetpoint v) = false
+licenceAfter b (WriteMinHeatSetpointLimit v) = b
+licenceAfter b (WriteMaxHeatSetpointLimit v) = b
+licenceAfter b (WriteMinCoolSetpointLimit v) = b
+licenceAfter b (WriteMaxCoolSetpointLimit v) = b
+licenceAfter b (WriteSystemMode v) = b
+licenceAfter b (SetControlSequenceOfOperation v) = b
+licenceAfter b (RaiseLowerSetpoint mode amount) = false
+licenceAfter b ArmClock = b
+licenceAfter b (OutOfBand LocalTemperature) = b
+licenceAfter b (OutOfBand RunningState) = b
+licenceAfter b (OutOfBand Update) = b
+licenceAfter b (OutOfBand (OccupiedHeatingSetpoint v)) = true
+licenceAfter b (OutOfBand (OccupiedCoolingSetpoint v)) = true
+licenceAfter b (OutOfBand (SystemMode v)) = b
+licenceAfter b (OutOfBand (SetpointLimits w x y z)) = false
+licenceAfter b SeedEvents = b
+licenceAfter b Sweep = b
+licenceAfter b Timer = b
+licenceAfter b Deadline = b
+
+unfoldable pub licensed : Config → Controller → Bool → List Entry → Bool
+licensed cfg r b [] = b
+licensed cfg r b (e ∷ l) = licensed cfg (after cfg r e) (cond (eqb (number cfg r e) 0) (licenceAfter b (e .call)) b) l
+
+-- each served setpoint within its limits in force
+pub record InBand (cfg : Config) (s : Settings) : Type 0 where
+  pub heating : serves cfg 0x12 ≡ true → (minHeatSetpoint cfg s .0 ≤ℤ s .heating .0) × (s .heating .0 ≤ℤ maxHeatSetpoint cfg s .0)
+  pub cooling : serves cfg 0x11 ≡ true → (minCoolSetpoint cfg s .0 ≤ℤ s .cooling .0) × (s .cooling .0 ≤ℤ maxCoolSetpoint cfg s .0)
+
+-- with AUTO heating plus dead band at most cooling, exactly, in hundredths
+abbrev pub GapKept : Config → Settings → Type 0
+GapKept cfg s = auto cfg ≡ true → (s .heating .0 +ℤ deadBand cfg .0) ≤ℤ s .cooling .0
+
+-- Band. After opening and after each call of any list the setpoints lie in their band, and the gap is kept unless licensed
+abbrev pub Band : Type 0
+Band =
+    (cfg : Config) (s : Settings) (l : List Entry) → accepted cfg ≡ true
+    → InBand cfg (run cfg (opened cfg s .rec) l .attrs .settings)
+    × (licensed cfg (opened cfg s .rec) false l ≡ false → GapKept cfg (run cfg (opened cfg s .rec) l .attrs .settings))
