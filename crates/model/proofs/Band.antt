@@ -156,7 +156,7 @@ module _ (cfg : Config) (v : Valid cfg) (d : Readings) where
   unfolding applied askSweep
   applied-gap q g = g
 
-  settings-armed : (r : Controller) → armedClock cfg d r .attrs ≡ r .attrs
+  pub settings-armed : (r : Controller) → armedClock cfg d r .attrs ≡ r .attrs
   unfolding armedClock
   settings-armed r = refl
 
@@ -241,7 +241,7 @@ module _ (cfg : Config) (v : Valid cfg) (d : Readings) (r : Controller) (g : Goo
 
 -- whole lists
 module _ (cfg : Config) (v : Valid cfg) where
-  run-good : (l : List Entry) (r : Controller) → Good cfg r → Good cfg (run cfg r l)
+  pub run-good : (l : List Entry) (r : Controller) → Good cfg r → Good cfg (run cfg r l)
   unfolding run
   run-good [] r g = g
   run-good (e ∷ l) r g = run-good l (after cfg r e) (step-good cfg v (e .readings) r g (e .call))
@@ -261,8 +261,7 @@ band cfg s l a =
     let v = valid cfg a in
     let g = opened-good cfg s a in
     let p = run-good cfg v l (opened cfg s .rec) g .placed in
-    let q = run cfg (opened cfg s .rec) l .attrs .settings in
-    (
+    let q = run cfg (opened cfg s .rec) l .attrs .settings in (
       record { heating = λ e. heating-between cfg q p (sym (v .heating-served) ∙ e); cooling = λ e. cooling-between cfg q p (sym (v .cooling-served) ∙ e) },
       run-gap cfg v l (opened cfg s .rec) false g (λ e. opened-gap cfg s a),
     )

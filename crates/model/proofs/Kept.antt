@@ -266,11 +266,11 @@ module _ (cfg : Config) (v : Valid cfg) (d : Readings) where
       let k = repair-placed cfg v (limitsTaken cfg (r .attrs) a b c e) in record { placed = k .0; mode = k .1; last = g .last }
 
 -- a limit attribute is served only with all four of its side
-heat-served : (cfg : Config) → Valid cfg → (serves cfg 0x15 || serves cfg 0x16) ≡ true → hasHeatLimits cfg ≡ true
+pub heat-served : (cfg : Config) → Valid cfg → (serves cfg 0x15 || serves cfg 0x16) ≡ true → hasHeatLimits cfg ≡ true
 unfolding someHeatLimit
 heat-served cfg v e = v .heat-limits (or-right (serves cfg 0x03 || serves cfg 0x04) _ e)
 
-cool-served : (cfg : Config) → Valid cfg → (serves cfg 0x17 || serves cfg 0x18) ≡ true → hasCoolLimits cfg ≡ true
+pub cool-served : (cfg : Config) → Valid cfg → (serves cfg 0x17 || serves cfg 0x18) ≡ true → hasCoolLimits cfg ≡ true
 unfolding someCoolLimit
 cool-served cfg v e = v .cool-limits (or-right (serves cfg 0x05 || serves cfg 0x06) _ e)
 

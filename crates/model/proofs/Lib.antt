@@ -7,3 +7,6 @@ pub mod Chain
 pub mod Repair
 pub mod Kept
 pub mod Band
+pub mod Agree
+pub mod Agreement
+pub mod Mode

@@ -94,6 +94,24 @@ clear (w ∷ ws) e f =
     let p = passed (w .cause) (w .number) (firstFailing ws) (b .0) f in
     (p .0, clear ws (b .1) (p .1))
 
+-- an accepted call met no cause, and gives its outcome
+pub accepted-clear : (ws : List Row) (r : Controller) (o : Outcome) → numbered ws ≡ true → unless ws r o .number ≡ 0 → Clear ws
+unfolding unless
+accepted-clear [] r o m e = tt
+accepted-clear (w ∷ ws) r o m e =
+    let b = both (ltb 0 (w .number)) (numbered ws) m in
+    let k = first-clear (w .cause) (w .number) (quiet (w .number) r) (unless ws r o) (b .0) refl e in
+    (k .0, accepted-clear ws r o (b .1) (k .1))
+  where
+    first-clear : (t : Bool) (n : ℕ) (x y : Outcome) → ltb 0 n ≡ true → x .number ≡ n → cond t x y .number ≡ 0 → (t ≡ false) × (y .number ≡ 0)
+    first-clear true n x y m e f = absurd (omega (arith, ltb-true 0 n m))
+    first-clear false n x y m e f = (refl, f)
+
+pub clear-outcome : (ws : List Row) (r : Controller) (o : Outcome) → Clear ws → unless ws r o ≡ o
+unfolding unless
+clear-outcome [] r o c = refl
+clear-outcome (w ∷ ws) r o c = rw (c .0) (clear-outcome ws r o (c .1))
+
 -- the rows of two lists
 pub clear-append : (ws vs : List Row) → Clear (ws ++ vs) → Clear ws × Clear vs
 clear-append [] vs c = (tt, c)

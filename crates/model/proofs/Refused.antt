@@ -49,7 +49,7 @@ module _ (cfg : Config) (r : Controller) (d : Readings) where
   message (SystemMode v) = guarded _ _ (inl refl)
   message (SetpointLimits a b c e) = inl refl
 
-  swept-done : swept cfg d r .number ≡ 0
+  pub swept-done : swept cfg d r .number ≡ 0
   unfolding swept sweepEvents
   swept-done = go (eqb (r .pending) 0) (listed (r .pending) 9)
     where

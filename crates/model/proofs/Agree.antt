@@ -1,0 +1,322 @@
+-- Two controllers that get the same calls: equal limits, modes and setpoints travel along the list, each by itself.
+use mathlib.Core.Path.{_≡_, refl, sym, _∙_, ap, subst}
+use mathlib.Core.Bool.{Bool, true, false, not, _&&_, _||_, cond}
+use mathlib.Core.List.{List, [], _∷_, _++_, append-assoc}
+use Prim.Native.Nat.{ℕ}
+use lib.Dec.{eqb, ltb}
+use borrow.Author.Tests.{not-false, not-true}
+use Rattle.units.specs.Units.{plus, minus, above, below, within, widened, greater, lesser, clamped, raised, equal}
+use Rattle.units.specs.declared.Hundredths.{Hundredths}
+use Rattle.units.specs.declared.Tenths.{Tenths}
+use Rattle.model.specs.Records.{withAttrs, withPending, setHeating, setCooling, setMinHeat, setMaxHeat, setMinCool, setMaxCool, setMode}
+use Rattle.model.specs.Answers.{Outcome, Stage, quiet, andThen, unchanged}
+use Rattle.model.specs.Refusals.{Row, row, unless, Clear, numbered}
+use Rattle.model.specs.Served.{heats, cools, auto, serves, listed, hasHeatLimits, hasCoolLimits}
+use Rattle.model.specs.Units.{deadBand}
+use Rattle.model.specs.Limits.{minHeatSetpoint, maxHeatSetpoint, minCoolSetpoint, maxCoolSetpoint, inHeatLimits, inCoolLimits, clampHeatSetpoint, clampCoolSetpoint}
+use Rattle.model.specs.Modes.{isSupportedSystemMode}
+use Rattle.model.specs.Attribution.{external, armedClock, claimSetpoints}
+use Rattle.model.specs.Validation.{accepted}
+use Rattle.model.specs.Repair.{clampMinHeat, clampMaxHeat, clampMinCool, clampMaxCool, pullMinHeat, pullMaxHeat, clampHeating, clampCooling, pushCooling, pushHeating, repairMode, repairLimits, repairSetpoints, repaired}
+use Rattle.model.specs.Sound.{sound, unsound, lastClock}
+use Rattle.model.specs.Writes.{minHeatRows, maxHeatRows, minCoolRows, maxCoolRows, unserved, askSweep, applied, namesAbsentSide, coolingBeside, heatingBeside, storeHeatingSetpoint, storeCoolingSetpoint, pullHeating, pullCooling, limitStored, raiseHeating, raiseCooling, raiseBoth, raiseSides, writeOccupiedHeatingSetpoint, writeOccupiedCoolingSetpoint, writeMinHeatSetpointLimit, writeMaxHeatSetpointLimit, writeMinCoolSetpointLimit, writeMaxCoolSetpointLimit, writeSystemMode, setControlSequenceOfOperation, raiseLowerSetpoint, armClock}
+use Rattle.model.specs.Messages.{messageTaken, heatingMessage, coolingMessage, modeMessage, limitsMessage, limitsTaken, outOfBandMessage}
+use Rattle.model.specs.Sweep.{late, takeEvents, swept, sweep, timer, started, seedEvents, deadline}
+use Rattle.model.specs.Step.{opened, step}
+use Rattle.model.specs.declared.Config.{Config}
+use Rattle.model.specs.declared.Settings.{Settings}
+use Rattle.model.specs.declared.Attrs.{Attrs}
+use Rattle.model.specs.declared.Controller.{Controller}
+use Rattle.model.specs.declared.Readings.{Readings}
+use Rattle.model.specs.declared.OutOfBandMessage.{OutOfBandMessage}
+use Rattle.model.specs.declared.OutOfBandMessage.the-variants.{LocalTemperature, RunningState, Update, OccupiedHeatingSetpoint, OccupiedCoolingSetpoint, SystemMode, SetpointLimits}
+use Rattle.model.specs.declared.Call.{Call}
+use Rattle.model.specs.declared.Call.the-variants.{WriteOccupiedHeatingSetpoint, WriteOccupiedCoolingSetpoint, WriteMinHeatSetpointLimit, WriteMaxHeatSetpointLimit, WriteMinCoolSetpointLimit, WriteMaxCoolSetpointLimit, WriteSystemMode, SetControlSequenceOfOperation, RaiseLowerSetpoint, ArmClock, OutOfBand, SeedEvents, Sweep, Timer, Deadline}
+use Rattle.model.specs.Claims.{Entry, entry, after, number, run, numbers, AllAccepted, EqualLimits, EqualSetpoints, Agree, limitsEntry, Adjacent, LimitsThenWrites, ModeWritten, Agreement, LimitsAgree, ModesAgree, SetpointsAgree}
+use Rattle.model.proofs.Logic.{by-cond, by-unless, clash, neither, not-both, or-left, or-right}
+use Rattle.model.proofs.Valid.{Valid, valid}
+use Rattle.model.proofs.Kept.{Good, step-good, opened-good, is-good}
+use Rattle.model.proofs.Band.{run-good, settings-armed, events-attrs, swept-attrs}
+
+-- equal stored limits
+pub record SameLimits (s t : Settings) : Type 0 where
+  pub minheat : s .minheat ≡ t .minheat
+  pub maxheat : s .maxheat ≡ t .maxheat
+  pub mincool : s .mincool ≡ t .mincool
+  pub maxcool : s .maxcool ≡ t .maxcool
+
+-- equal setpoints of the sides that the features have
+pub record SamePoints (cfg : Config) (s t : Settings) : Type 0 where
+  pub heating : heats cfg ≡ true → s .heating ≡ t .heating
+  pub cooling : cools cfg ≡ true → s .cooling ≡ t .cooling
+
+-- two picks by the same test, and two guarded outcomes with the same rows
+pub both-cond {ℓ} : {X : Type 0} (R : X → X → Type ℓ) (b : Bool) (x y u w : X) → (b ≡ true → R x u) → (b ≡ false → R y w) → R (cond b x y) (cond b u w)
+both-cond R true x y u w f g = f refl
+both-cond R false x y u w f g = g refl
+
+both-guarded : (R : Outcome → Outcome → Type 0) (ws : List Row) (q r : Controller) (o p : Outcome) → ((n : ℕ) → R (quiet n q) (quiet n r)) → (Clear ws → R o p) → R (unless ws q o) (unless ws r p)
+unfolding unless
+both-guarded R [] q r o p f g = g tt
+both-guarded R (w ∷ ws) q r o p f g =
+    both-cond R (w .cause) (quiet (w .number) q) (unless ws q o) (quiet (w .number) r) (unless ws r p) (λ e. f (w .number)) (λ e. both-guarded R ws q r o p f (λ c. g (e, c)))
+
+pub both-unless : (R : Outcome → Outcome → Type 0) (ws vs : List Row) (q r : Controller) (o p : Outcome) → ws ≡ vs → ((n : ℕ) → R (quiet n q) (quiet n r)) → (Clear ws → R o p) → R (unless ws q o) (unless vs r p)
+both-unless R ws vs q r o p e f g = subst (λ (x : List Row). R (unless ws q o) (unless x r p)) e (both-guarded R ws q r o p f g)
+
+module _ (cfg : Config) (s t : Settings) (k : SameLimits s t) where
+  pub limits-in-force : EqualLimits cfg s t
+  unfolding minHeatSetpoint maxHeatSetpoint minCoolSetpoint maxCoolSetpoint
+  limits-in-force =
+      record {
+        min-heat = ap (λ (x : Hundredths). cond (hasHeatLimits cfg) x (cfg .absminheat)) (k .minheat);
+        max-heat = ap (λ (x : Hundredths). cond (hasHeatLimits cfg) x (cfg .absmaxheat)) (k .maxheat);
+        min-cool = ap (λ (x : Hundredths). cond (hasCoolLimits cfg) x (cfg .absmincool)) (k .mincool);
+        max-cool = ap (λ (x : Hundredths). cond (hasCoolLimits cfg) x (cfg .absmaxcool)) (k .maxcool);
+      }
+
+  pub same-in-heat : (x y : Hundredths) → x ≡ y → inHeatLimits cfg s x ≡ inHeatLimits cfg t y
+  unfolding inHeatLimits
+  same-in-heat x y e = let l = limits-in-force in simp (e, l .min-heat, l .max-heat)
+
+  pub same-in-cool : (x y : Hundredths) → x ≡ y → inCoolLimits cfg s x ≡ inCoolLimits cfg t y
+  unfolding inCoolLimits
+  same-in-cool x y e = let l = limits-in-force in simp (e, l .min-cool, l .max-cool)
+
+  pub same-clamp-heat : (x y : Hundredths) → x ≡ y → clampHeatSetpoint cfg s (widened x) ≡ clampHeatSetpoint cfg t (widened y)
+  unfolding clampHeatSetpoint
+  same-clamp-heat x y e = let l = limits-in-force in simp (e, l .min-heat, l .max-heat)
+
+  pub same-clamp-cool : (x y : Hundredths) → x ≡ y → clampCoolSetpoint cfg s (widened x) ≡ clampCoolSetpoint cfg t (widened y)
+  unfolding clampCoolSetpoint
+  same-clamp-cool x y e = let l = limits-in-force in simp (e, l .min-cool, l .max-cool)
+
+  -- the other setpoint beside a stored one
+  same-beside-cool : (x y : Hundredths) → x ≡ y → s .cooling ≡ t .cooling → coolingBeside cfg s x ≡ coolingBeside cfg t y
+  unfolding coolingBeside clampCoolSetpoint
+  same-beside-cool x y e c = let l = limits-in-force in simp (e, c, l .min-cool, l .max-cool)
+
+  same-beside-heat : (x y : Hundredths) → x ≡ y → s .heating ≡ t .heating → heatingBeside cfg s x ≡ heatingBeside cfg t y
+  unfolding heatingBeside clampHeatSetpoint
+  same-beside-heat x y e h = let l = limits-in-force in simp (e, h, l .min-heat, l .max-heat)
+
+  same-raised-heat : (a : Tenths) → s .heating ≡ t .heating → raised (s .heating) a (minHeatSetpoint cfg s) (maxHeatSetpoint cfg s) ≡ raised (t .heating) a (minHeatSetpoint cfg t) (maxHeatSetpoint cfg t)
+  same-raised-heat a h = let l = limits-in-force in simp (h, l .min-heat, l .max-heat)
+
+  same-raised-cool : (a : Tenths) → s .cooling ≡ t .cooling → raised (s .cooling) a (minCoolSetpoint cfg s) (maxCoolSetpoint cfg s) ≡ raised (t .cooling) a (minCoolSetpoint cfg t) (maxCoolSetpoint cfg t)
+  same-raised-cool a c = let l = limits-in-force in simp (c, l .min-cool, l .max-cool)
+
+pub self : (s : Settings) → SameLimits s s
+self s = record { minheat = refl; maxheat = refl; mincool = refl; maxcool = refl }
+
+pub chained : {s t u w : Settings} → SameLimits s t → SameLimits u w → SameLimits t w → SameLimits s u
+chained a b c =
+    record { minheat = a .minheat ∙ c .minheat ∙ sym (b .minheat); maxheat = a .maxheat ∙ c .maxheat ∙ sym (b .maxheat); mincool = a .mincool ∙ c .mincool ∙ sym (b .mincool); maxcool = a .maxcool ∙ c .maxcool ∙ sym (b .maxcool) }
+
+-- the limits that a call leaves which stores none
+module _ (cfg : Config) (d : Readings) where
+  abbrev pub KeepsLimits : Controller → Stage → Type 0
+  KeepsLimits r q = SameLimits (q .rec .attrs .settings) (r .attrs .settings)
+
+  pub heating-limits : (source : ℕ) (h : Hundredths) (r : Controller) → KeepsLimits r (storeHeatingSetpoint cfg d source h r)
+  unfolding storeHeatingSetpoint claimSetpoints
+  heating-limits source h r = record { minheat = refl; maxheat = refl; mincool = refl; maxcool = refl }
+
+  pub cooling-limits : (source : ℕ) (c : Hundredths) (r : Controller) → KeepsLimits r (storeCoolingSetpoint cfg d source c r)
+  unfolding storeCoolingSetpoint claimSetpoints
+  cooling-limits source c r = record { minheat = refl; maxheat = refl; mincool = refl; maxcool = refl }
+
+  pub pull-heat-limits : (r : Controller) → KeepsLimits r (pullHeating cfg d r)
+  unfolding pullHeating
+  pull-heat-limits r =
+      let s = r .attrs .settings in
+      by-cond (KeepsLimits r) (inHeatLimits cfg s (s .heating)) (unchanged r) _ (λ e. self s) (λ e. heating-limits external (clampHeatSetpoint cfg s (widened (s .heating))) r)
+
+  pub pull-cool-limits : (r : Controller) → KeepsLimits r (pullCooling cfg d r)
+  unfolding pullCooling
+  pull-cool-limits r =
+      let s = r .attrs .settings in
+      by-cond (KeepsLimits r) (inCoolLimits cfg s (s .cooling)) (unchanged r) _ (λ e. self s) (λ e. cooling-limits external (clampCoolSetpoint cfg s (widened (s .cooling))) r)
+
+  raise-heat-limits : (a : Tenths) (r : Controller) → KeepsLimits r (raiseHeating cfg d a r)
+  unfolding raiseHeating
+  raise-heat-limits a r = heating-limits external _ r
+
+  raise-cool-limits : (a : Tenths) (r : Controller) → KeepsLimits r (raiseCooling cfg d a r)
+  unfolding raiseCooling
+  raise-cool-limits a r = cooling-limits external _ r
+
+  raise-both-limits : (a : Tenths) (r : Controller) → KeepsLimits r (raiseBoth cfg d a r)
+  unfolding raiseBoth
+  raise-both-limits a r =
+      let x = cond (heats cfg) (raiseHeating cfg d a r) (unchanged r) in
+      let k : KeepsLimits r x = by-cond (KeepsLimits r) (heats cfg) (raiseHeating cfg d a r) (unchanged r) (λ e. raise-heat-limits a r) (λ e. self (r .attrs .settings)) in
+      by-cond (KeepsLimits r) (cools cfg) (raiseCooling cfg d a (x .rec)) (unchanged (x .rec)) (λ e. chained (raise-cool-limits a (x .rec)) (self (r .attrs .settings)) k) (λ e. k)
+
+  pub raise-limits : (mode : ℕ) (a : Tenths) (r : Controller) → KeepsLimits r (raiseSides cfg d mode a r)
+  unfolding raiseSides
+  raise-limits mode a r =
+      by-cond (KeepsLimits r) (eqb mode 0) _ _ (λ e. raise-heat-limits a r) (λ e. by-cond (KeepsLimits r) (eqb mode 1) _ _ (λ f. raise-cool-limits a r) (λ f. raise-both-limits a r))
+
+-- repair: limits from limits, setpoints from limits and setpoints. Q is whatever makes the setpoints equal
+module _ (cfg : Config) (v : Valid cfg) (Q : Type 0) where
+  pub record Alike (a b : Attrs) : Type 0 where
+    pub limits : SameLimits (a .settings) (b .settings)
+    pub points : Q → SamePoints cfg (a .settings) (b .settings)
+
+  same-min-heat : (a b : Attrs) → Alike a b → Alike (clampMinHeat cfg a) (clampMinHeat cfg b)
+  unfolding clampMinHeat
+  same-min-heat a b k =
+      let l = k .limits in
+      both-cond Alike (hasHeatLimits cfg) _ a _ b (λ e. record { limits = record { minheat = simp (l .minheat); maxheat = l .maxheat; mincool = l .mincool; maxcool = l .maxcool }; points = λ q. record { heating = k .points q .heating; cooling = k .points q .cooling } }) (λ e. k)
+
+  same-max-heat : (a b : Attrs) → Alike a b → Alike (clampMaxHeat cfg a) (clampMaxHeat cfg b)
+  unfolding clampMaxHeat
+  same-max-heat a b k =
+      let l = k .limits in
+      both-cond Alike (hasHeatLimits cfg) _ a _ b (λ e. record { limits = record { minheat = l .minheat; maxheat = simp (l .minheat, l .maxheat); mincool = l .mincool; maxcool = l .maxcool }; points = λ q. record { heating = k .points q .heating; cooling = k .points q .cooling } }) (λ e. k)
+
+  same-min-cool : (a b : Attrs) → Alike a b → Alike (clampMinCool cfg a) (clampMinCool cfg b)
+  unfolding clampMinCool
+  same-min-cool a b k =
+      let l = k .limits in
+      both-cond Alike (hasCoolLimits cfg) _ a _ b (λ e. record { limits = record { minheat = l .minheat; maxheat = l .maxheat; mincool = simp (l .mincool); maxcool = l .maxcool }; points = λ q. record { heating = k .points q .heating; cooling = k .points q .cooling } }) (λ e. k)
+
+  same-max-cool : (a b : Attrs) → Alike a b → Alike (clampMaxCool cfg a) (clampMaxCool cfg b)
+  unfolding clampMaxCool
+  same-max-cool a b k =
+      let l = k .limits in
+      both-cond Alike (hasCoolLimits cfg) _ a _ b (λ e. record { limits = record { minheat = l .minheat; maxheat = l .maxheat; mincool = l .mincool; maxcool = simp (l .mincool, l .maxcool) }; points = λ q. record { heating = k .points q .heating; cooling = k .points q .cooling } }) (λ e. k)
+
+  same-pull-min : (a b : Attrs) → Alike a b → Alike (pullMinHeat cfg a) (pullMinHeat cfg b)
+  unfolding pullMinHeat
+  same-pull-min a b k =
+      let l = k .limits in
+      both-cond Alike (auto cfg && hasHeatLimits cfg) _ a _ b (λ e. record { limits = record { minheat = simp (l .minheat, l .mincool); maxheat = l .maxheat; mincool = l .mincool; maxcool = l .maxcool }; points = λ q. record { heating = k .points q .heating; cooling = k .points q .cooling } }) (λ e. k)
+
+  same-pull-max : (a b : Attrs) → Alike a b → Alike (pullMaxHeat cfg a) (pullMaxHeat cfg b)
+  unfolding pullMaxHeat
+  same-pull-max a b k =
+      let l = k .limits in
+      both-cond Alike (auto cfg && hasHeatLimits cfg) _ a _ b (λ e. record { limits = record { minheat = l .minheat; maxheat = simp (l .minheat, l .maxheat, l .maxcool); mincool = l .mincool; maxcool = l .maxcool }; points = λ q. record { heating = k .points q .heating; cooling = k .points q .cooling } }) (λ e. k)
+
+  -- a step on a setpoint leaves the limits
+  same-heating : (a b : Attrs) (x y : Hundredths) → (Q → x ≡ y) → Alike a b → Alike (setHeating a x) (setHeating b y)
+  same-heating a b x y e k =
+      let l = k .limits in
+      record { limits = record { minheat = l .minheat; maxheat = l .maxheat; mincool = l .mincool; maxcool = l .maxcool }; points = λ q. record { heating = λ h. e q; cooling = k .points q .cooling } }
+
+  same-cooling : (a b : Attrs) (x y : Hundredths) → (Q → x ≡ y) → Alike a b → Alike (setCooling a x) (setCooling b y)
+  same-cooling a b x y e k =
+      let l = k .limits in
+      record { limits = record { minheat = l .minheat; maxheat = l .maxheat; mincool = l .mincool; maxcool = l .maxcool }; points = λ q. record { heating = k .points q .heating; cooling = λ c. e q } }
+
+  same-clamp-heating : (a b : Attrs) → Alike a b → Alike (clampHeating cfg a) (clampHeating cfg b)
+  unfolding clampHeating
+  same-clamp-heating a b k =
+      both-cond Alike (heats cfg) _ a _ b
+      (λ e. same-heating a b _ _ (λ q. same-clamp-heat cfg (a .settings) (b .settings) (k .limits) _ _ (k .points q .heating e)) k) (λ e. k)
+
+  same-clamp-cooling : (a b : Attrs) → Alike a b → Alike (clampCooling cfg a) (clampCooling cfg b)
+  unfolding clampCooling
+  same-clamp-cooling a b k =
+      both-cond Alike (cools cfg) _ a _ b
+      (λ e. same-cooling a b _ _ (λ q. same-clamp-cool cfg (a .settings) (b .settings) (k .limits) _ _ (k .points q .cooling e)) k) (λ e. k)
+
+  same-push-cooling : (a b : Attrs) → Alike a b → Alike (pushCooling cfg a) (pushCooling cfg b)
+  unfolding pushCooling clampCoolSetpoint
+  same-push-cooling a b k =
+      let l = limits-in-force cfg (a .settings) (b .settings) (k .limits) in
+      both-cond Alike (auto cfg) _ a _ b
+      (λ e. same-cooling a b _ _ (λ q. simp (k .points q .cooling (v .auto-cools e), k .points q .heating (v .auto-heats e), l .min-cool, l .max-cool)) k) (λ e. k)
+
+  same-push-heating : (a b : Attrs) → Alike a b → Alike (pushHeating cfg a) (pushHeating cfg b)
+  unfolding pushHeating clampHeatSetpoint
+  same-push-heating a b k =
+      let l = limits-in-force cfg (a .settings) (b .settings) (k .limits) in
+      both-cond Alike (auto cfg) _ a _ b
+      (λ e. same-heating a b _ _ (λ q. simp (k .points q .cooling (v .auto-cools e), k .points q .heating (v .auto-heats e), l .min-heat, l .max-heat)) k) (λ e. k)
+
+  -- the mode touches neither
+  same-mode : (a b : Attrs) → Alike a b → Alike (repairMode cfg a) (repairMode cfg b)
+  unfolding repairMode
+  same-mode a b k =
+      let m = isSupportedSystemMode cfg (a .settings .mode) in
+      let n = isSupportedSystemMode cfg (b .settings .mode) in
+      by-cond (λ (x : Attrs). Alike x (cond n b (setMode b 0))) m a (setMode a 0)
+      (λ e. by-cond (λ (y : Attrs). Alike a y) n b (setMode b 0) (λ f. k) (λ f. record { limits = record { minheat = k .limits .minheat; maxheat = k .limits .maxheat; mincool = k .limits .mincool; maxcool = k .limits .maxcool }; points = λ q. record { heating = k .points q .heating; cooling = k .points q .cooling } }))
+      (λ e. by-cond (λ (y : Attrs). Alike (setMode a 0) y) n b (setMode b 0) (λ f. record { limits = record { minheat = k .limits .minheat; maxheat = k .limits .maxheat; mincool = k .limits .mincool; maxcool = k .limits .maxcool }; points = λ q. record { heating = k .points q .heating; cooling = k .points q .cooling } }) (λ f. record { limits = record { minheat = k .limits .minheat; maxheat = k .limits .maxheat; mincool = k .limits .mincool; maxcool = k .limits .maxcool }; points = λ q. record { heating = k .points q .heating; cooling = k .points q .cooling } }))
+
+  pub same-repaired : (a b : Attrs) → Alike a b → Alike (repaired cfg a) (repaired cfg b)
+  unfolding repaired repairSetpoints repairLimits
+  same-repaired a b k =
+      same-mode _ _ (same-push-heating _ _ (same-push-cooling _ _ (same-clamp-cooling _ _ (same-clamp-heating _ _ (same-pull-max _ _ (same-pull-min _ _ (same-max-cool _ _ (same-min-cool _ _ (same-max-heat _ _ (same-min-heat a b k))))))))))
+
+both-test : {X : Type 0} (R : X → X → Type 0) (b c : Bool) (x y u w : X) → b ≡ c → (b ≡ true → R x u) → (b ≡ false → R y w) → R (cond b x y) (cond c u w)
+both-test R b c x y u w e f g = subst (λ (z : Bool). R (cond b x y) (cond z u w)) e (both-cond R b x y u w f g)
+
+-- setpoints after stores of equal values
+module _ (cfg : Config) (d : Readings) where
+  abbrev pub PointsAlike : Stage → Stage → Type 0
+  PointsAlike x y = SamePoints cfg (x .rec .attrs .settings) (y .rec .attrs .settings)
+
+  -- a store fixes its own side, and the other from the other's old value
+  module _ (q r : Controller) (l : SameLimits (q .attrs .settings) (r .attrs .settings)) where
+    pub heating-points : (x y : Hundredths) → x ≡ y → (cools cfg ≡ true → q .attrs .settings .cooling ≡ r .attrs .settings .cooling) → PointsAlike (storeHeatingSetpoint cfg d external x q) (storeHeatingSetpoint cfg d external y r)
+    unfolding storeHeatingSetpoint claimSetpoints
+    heating-points x y e f = record { heating = λ h. e; cooling = λ c. same-beside-cool cfg (q .attrs .settings) (r .attrs .settings) l x y e (f c) }
+
+    pub cooling-points : (x y : Hundredths) → x ≡ y → (heats cfg ≡ true → q .attrs .settings .heating ≡ r .attrs .settings .heating) → PointsAlike (storeCoolingSetpoint cfg d external x q) (storeCoolingSetpoint cfg d external y r)
+    unfolding storeCoolingSetpoint claimSetpoints
+    cooling-points x y e f = record { heating = λ h. same-beside-heat cfg (q .attrs .settings) (r .attrs .settings) l x y e (f h); cooling = λ c. e }
+
+  module _ (q r : Controller) (l : SameLimits (q .attrs .settings) (r .attrs .settings)) (p : SamePoints cfg (q .attrs .settings) (r .attrs .settings)) where
+    stored-heat : (x y : Hundredths) → x ≡ y → PointsAlike (storeHeatingSetpoint cfg d external x q) (storeHeatingSetpoint cfg d external y r)
+    stored-heat x y e = heating-points q r l x y e (p .cooling)
+
+    stored-cool : (x y : Hundredths) → x ≡ y → PointsAlike (storeCoolingSetpoint cfg d external x q) (storeCoolingSetpoint cfg d external y r)
+    stored-cool x y e = cooling-points q r l x y e (p .heating)
+
+    pub pull-heat-points : heats cfg ≡ true → PointsAlike (pullHeating cfg d q) (pullHeating cfg d r)
+    unfolding pullHeating
+    pull-heat-points h =
+        let s = q .attrs .settings in
+        let t = r .attrs .settings in
+        let e = p .heating h in
+        both-test PointsAlike (inHeatLimits cfg s (s .heating)) (inHeatLimits cfg t (t .heating)) (unchanged q) _ (unchanged r) _ (same-in-heat cfg s t l (s .heating) (t .heating) e)
+        (λ z. p) (λ z. stored-heat _ _ (same-clamp-heat cfg s t l (s .heating) (t .heating) e))
+
+    pub pull-cool-points : cools cfg ≡ true → PointsAlike (pullCooling cfg d q) (pullCooling cfg d r)
+    unfolding pullCooling
+    pull-cool-points c =
+        let s = q .attrs .settings in
+        let t = r .attrs .settings in
+        let e = p .cooling c in
+        both-test PointsAlike (inCoolLimits cfg s (s .cooling)) (inCoolLimits cfg t (t .cooling)) (unchanged q) _ (unchanged r) _ (same-in-cool cfg s t l (s .cooling) (t .cooling) e)
+        (λ z. p) (λ z. stored-cool _ _ (same-clamp-cool cfg s t l (s .cooling) (t .cooling) e))
+
+    raise-heat-points : (a : Tenths) → heats cfg ≡ true → PointsAlike (raiseHeating cfg d a q) (raiseHeating cfg d a r)
+    unfolding raiseHeating
+    raise-heat-points a h = stored-heat _ _ (same-raised-heat cfg (q .attrs .settings) (r .attrs .settings) l a (p .heating h))
+
+    raise-cool-points : (a : Tenths) → cools cfg ≡ true → PointsAlike (raiseCooling cfg d a q) (raiseCooling cfg d a r)
+    unfolding raiseCooling
+    raise-cool-points a c = stored-cool _ _ (same-raised-cool cfg (q .attrs .settings) (r .attrs .settings) l a (p .cooling c))
+
+  module _ (q r : Controller) (l : SameLimits (q .attrs .settings) (r .attrs .settings)) (p : SamePoints cfg (q .attrs .settings) (r .attrs .settings)) where
+    raise-both-points : (a : Tenths) → PointsAlike (raiseBoth cfg d a q) (raiseBoth cfg d a r)
+    unfolding raiseBoth
+    raise-both-points a =
+        let x = cond (heats cfg) (raiseHeating cfg d a q) (unchanged q) in
+        let y = cond (heats cfg) (raiseHeating cfg d a r) (unchanged r) in
+        let m : PointsAlike x y = both-cond PointsAlike (heats cfg) (raiseHeating cfg d a q) (unchanged q) (raiseHeating cfg d a r) (unchanged r) (λ h. raise-heat-points q r l p a h) (λ h. p) in
+        let k : SameLimits (x .rec .attrs .settings) (y .rec .attrs .settings) = both-cond (λ (u w : Stage). SameLimits (u .rec .attrs .settings) (w .rec .attrs .settings)) (heats cfg) (raiseHeating cfg d a q) (unchanged q) (raiseHeating cfg d a r) (unchanged r) (λ h. chained (raise-heat-limits cfg d a q) (raise-heat-limits cfg d a r) l) (λ h. l) in
+        both-cond PointsAlike (cools cfg) (raiseCooling cfg d a (x .rec)) (unchanged (x .rec)) (raiseCooling cfg d a (y .rec)) (unchanged (y .rec)) (λ c. raise-cool-points (x .rec) (y .rec) k m a c) (λ c. m)
+
+    pub raise-points : (mode : ℕ) (a : Tenths) → namesAbsentSide cfg mode ≡ false → PointsAlike (raiseSides cfg d mode a q) (raiseSides cfg d mode a r)
+    unfolding raiseSides namesAbsentSide
+    raise-points mode a z =
+        let n = neither (eqb mode 0 && not (heats cfg)) (eqb mode 1 && not (cools cfg)) z in
+        both-cond PointsAlike (eqb mode 0) (raiseHeating cfg d a q) _ (raiseHeating cfg d a r) _ (λ e. raise-heat-points q r l p a (not-false (heats cfg) (not-both (eqb mode 0) (not (heats cfg)) (n .0) e)))
+        (λ e. both-cond PointsAlike (eqb mode 1) (raiseCooling cfg d a q) _ (raiseCooling cfg d a r) _ (λ f. raise-cool-points q r l p a (not-false (cools cfg) (not-both (eqb mode 1) (not (cools cfg)) (n .1) f)))
+        (λ f. raise-both-points a))

@@ -1,0 +1,223 @@
+-- The mode is a function of the mode before, the configuration and the call.
+use mathlib.Core.Path.{_≡_, refl, sym, _∙_, ap, subst}
+use mathlib.Core.Bool.{Bool, true, false, not, _&&_, _||_, cond}
+use mathlib.Core.List.{List, [], _∷_, _++_, append-assoc}
+use Prim.Native.Nat.{ℕ}
+use lib.Dec.{eqb, ltb}
+use borrow.Author.Tests.{not-false, not-true}
+use Rattle.units.specs.Units.{plus, minus, above, below, within, widened, greater, lesser, clamped, raised, equal}
+use Rattle.units.specs.declared.Hundredths.{Hundredths}
+use Rattle.units.specs.declared.Tenths.{Tenths}
+use Rattle.model.specs.Records.{withAttrs, withPending, setHeating, setCooling, setMinHeat, setMaxHeat, setMinCool, setMaxCool, setMode, setLimits}
+use Rattle.model.specs.Answers.{Outcome, Stage, quiet, andThen, unchanged}
+use Rattle.model.specs.Refusals.{Row, row, unless, Clear, numbered}
+use Rattle.model.specs.Served.{heats, cools, auto, serves, listed, hasHeatLimits, hasCoolLimits}
+use Rattle.model.specs.Units.{deadBand}
+use Rattle.model.specs.Limits.{minHeatSetpoint, maxHeatSetpoint, minCoolSetpoint, maxCoolSetpoint, inHeatLimits, inCoolLimits, clampHeatSetpoint, clampCoolSetpoint}
+use Rattle.model.specs.Modes.{isSupportedSystemMode}
+use Rattle.model.specs.Attribution.{external, armedClock, claimSetpoints}
+use Rattle.model.specs.Validation.{accepted}
+use Rattle.model.specs.Repair.{clampMinHeat, clampMaxHeat, clampMinCool, clampMaxCool, pullMinHeat, pullMaxHeat, clampHeating, clampCooling, pushCooling, pushHeating, repairMode, repairLimits, repairSetpoints, repaired}
+use Rattle.model.specs.Sound.{sound, unsound, lastClock}
+use Rattle.model.specs.Writes.{minHeatRows, maxHeatRows, minCoolRows, maxCoolRows, unserved, askSweep, applied, namesAbsentSide, coolingBeside, heatingBeside, storeHeatingSetpoint, storeCoolingSetpoint, pullHeating, pullCooling, limitStored, raiseHeating, raiseCooling, raiseBoth, raiseSides, writeOccupiedHeatingSetpoint, writeOccupiedCoolingSetpoint, writeMinHeatSetpointLimit, writeMaxHeatSetpointLimit, writeMinCoolSetpointLimit, writeMaxCoolSetpointLimit, writeSystemMode, setControlSequenceOfOperation, raiseLowerSetpoint, armClock}
+use Rattle.model.specs.Messages.{messageTaken, heatingMessage, coolingMessage, modeMessage, limitsMessage, limitsTaken, outOfBandMessage}
+use Rattle.model.specs.Sweep.{late, takeEvents, swept, sweep, timer, started, seedEvents, deadline}
+use Rattle.model.specs.Step.{opened, step}
+use Rattle.model.specs.declared.Config.{Config}
+use Rattle.model.specs.declared.Settings.{Settings}
+use Rattle.model.specs.declared.Attrs.{Attrs}
+use Rattle.model.specs.declared.Controller.{Controller}
+use Rattle.model.specs.declared.Readings.{Readings}
+use Rattle.model.specs.declared.OutOfBandMessage.{OutOfBandMessage}
+use Rattle.model.specs.declared.OutOfBandMessage.the-variants.{LocalTemperature, RunningState, Update, OccupiedHeatingSetpoint, OccupiedCoolingSetpoint, SystemMode, SetpointLimits}
+use Rattle.model.specs.declared.Call.{Call}
+use Rattle.model.specs.declared.Call.the-variants.{WriteOccupiedHeatingSetpoint, WriteOccupiedCoolingSetpoint, WriteMinHeatSetpointLimit, WriteMaxHeatSetpointLimit, WriteMinCoolSetpointLimit, WriteMaxCoolSetpointLimit, WriteSystemMode, SetControlSequenceOfOperation, RaiseLowerSetpoint, ArmClock, OutOfBand, SeedEvents, Sweep, Timer, Deadline}
+use Rattle.model.specs.Claims.{Entry, entry, after, number, run, numbers, AllAccepted, EqualLimits, EqualSetpoints, Agree, limitsEntry, Adjacent, LimitsThenWrites, ModeWritten, Agreement, LimitsAgree, ModesAgree, SetpointsAgree}
+use Rattle.model.proofs.Logic.{by-cond, by-unless, clash, neither, not-both, or-left, or-right}
+use Rattle.model.proofs.Valid.{Valid, valid}
+use Rattle.model.proofs.Kept.{Good, step-good, opened-good, is-good, heat-served, cool-served}
+use Rattle.model.proofs.Agree.{SameLimits, SamePoints, both-unless, chained, self, limits-in-force, same-in-heat, same-in-cool, same-clamp-heat, same-clamp-cool, heating-limits, cooling-limits, pull-heat-limits, pull-cool-limits, raise-limits, Alike, same-repaired, heating-points, cooling-points, pull-heat-points, pull-cool-points, raise-points}
+use Rattle.model.proofs.Refused.{swept-done}
+use Rattle.model.proofs.Band.{run-good, settings-armed, events-attrs, swept-attrs}
+
+-- the mode after a call, from the mode before it
+abbrev pub modeAfter : Config → ℕ → Call → ℕ
+modeAfter cfg m (WriteOccupiedHeatingSetpoint v) = m
+modeAfter cfg m (WriteOccupiedCoolingSetpoint v) = m
+modeAfter cfg m (WriteMinHeatSetpointLimit v) = m
+modeAfter cfg m (WriteMaxHeatSetpointLimit v) = m
+modeAfter cfg m (WriteMinCoolSetpointLimit v) = m
+modeAfter cfg m (WriteMaxCoolSetpointLimit v) = m
+modeAfter cfg m (WriteSystemMode v) = cond (isSupportedSystemMode cfg v) v m
+modeAfter cfg m (SetControlSequenceOfOperation v) = m
+modeAfter cfg m (RaiseLowerSetpoint mode amount) = m
+modeAfter cfg m ArmClock = m
+modeAfter cfg m (OutOfBand LocalTemperature) = m
+modeAfter cfg m (OutOfBand RunningState) = m
+modeAfter cfg m (OutOfBand Update) = m
+modeAfter cfg m (OutOfBand (OccupiedHeatingSetpoint v)) = m
+modeAfter cfg m (OutOfBand (OccupiedCoolingSetpoint v)) = m
+modeAfter cfg m (OutOfBand (SystemMode v)) = cond (isSupportedSystemMode cfg v) v m
+modeAfter cfg m (OutOfBand (SetpointLimits w x y z)) = m
+modeAfter cfg m SeedEvents = m
+modeAfter cfg m Sweep = m
+modeAfter cfg m Timer = m
+modeAfter cfg m Deadline = m
+
+module _ (cfg : Config) where
+  abbrev ModeOf : Attrs → Attrs → Type 0
+  ModeOf a b = b .settings .mode ≡ a .settings .mode
+
+  mode-clampMinHeat : (a : Attrs) → clampMinHeat cfg a .settings .mode ≡ a .settings .mode
+  unfolding clampMinHeat
+  mode-clampMinHeat a = by-cond (ModeOf a) (hasHeatLimits cfg) _ a (λ e. refl) (λ e. refl)
+
+  mode-clampMaxHeat : (a : Attrs) → clampMaxHeat cfg a .settings .mode ≡ a .settings .mode
+  unfolding clampMaxHeat
+  mode-clampMaxHeat a = by-cond (ModeOf a) (hasHeatLimits cfg) _ a (λ e. refl) (λ e. refl)
+
+  mode-clampMinCool : (a : Attrs) → clampMinCool cfg a .settings .mode ≡ a .settings .mode
+  unfolding clampMinCool
+  mode-clampMinCool a = by-cond (ModeOf a) (hasCoolLimits cfg) _ a (λ e. refl) (λ e. refl)
+
+  mode-clampMaxCool : (a : Attrs) → clampMaxCool cfg a .settings .mode ≡ a .settings .mode
+  unfolding clampMaxCool
+  mode-clampMaxCool a = by-cond (ModeOf a) (hasCoolLimits cfg) _ a (λ e. refl) (λ e. refl)
+
+  mode-pullMinHeat : (a : Attrs) → pullMinHeat cfg a .settings .mode ≡ a .settings .mode
+  unfolding pullMinHeat
+  mode-pullMinHeat a = by-cond (ModeOf a) (auto cfg && hasHeatLimits cfg) _ a (λ e. refl) (λ e. refl)
+
+  mode-pullMaxHeat : (a : Attrs) → pullMaxHeat cfg a .settings .mode ≡ a .settings .mode
+  unfolding pullMaxHeat
+  mode-pullMaxHeat a = by-cond (ModeOf a) (auto cfg && hasHeatLimits cfg) _ a (λ e. refl) (λ e. refl)
+
+  mode-clampHeating : (a : Attrs) → clampHeating cfg a .settings .mode ≡ a .settings .mode
+  unfolding clampHeating
+  mode-clampHeating a = by-cond (ModeOf a) (heats cfg) _ a (λ e. refl) (λ e. refl)
+
+  mode-clampCooling : (a : Attrs) → clampCooling cfg a .settings .mode ≡ a .settings .mode
+  unfolding clampCooling
+  mode-clampCooling a = by-cond (ModeOf a) (cools cfg) _ a (λ e. refl) (λ e. refl)
+
+  mode-pushCooling : (a : Attrs) → pushCooling cfg a .settings .mode ≡ a .settings .mode
+  unfolding pushCooling
+  mode-pushCooling a = by-cond (ModeOf a) (auto cfg) _ a (λ e. refl) (λ e. refl)
+
+  mode-pushHeating : (a : Attrs) → pushHeating cfg a .settings .mode ≡ a .settings .mode
+  unfolding pushHeating
+  mode-pushHeating a = by-cond (ModeOf a) (auto cfg) _ a (λ e. refl) (λ e. refl)
+
+  -- a supported mode stays through a repair
+  mode-repaired : (a : Attrs) → isSupportedSystemMode cfg (a .settings .mode) ≡ true → repaired cfg a .settings .mode ≡ a .settings .mode
+  unfolding repaired repairSetpoints repairLimits repairMode
+  mode-repaired a m =
+      let a₁ = clampMinHeat cfg a in
+      let a₂ = clampMaxHeat cfg a₁ in
+      let a₃ = clampMinCool cfg a₂ in
+      let a₄ = clampMaxCool cfg a₃ in
+      let a₅ = pullMinHeat cfg a₄ in
+      let a₆ = pullMaxHeat cfg a₅ in
+      let a₇ = clampHeating cfg a₆ in
+      let a₈ = clampCooling cfg a₇ in
+      let a₉ = pushCooling cfg a₈ in
+      let b = pushHeating cfg a₉ in
+      let e : b .settings .mode ≡ a .settings .mode = mode-pushHeating a₉ ∙ mode-pushCooling a₈ ∙ mode-clampCooling a₇ ∙ mode-clampHeating a₆ ∙ mode-pullMaxHeat a₅ ∙ mode-pullMinHeat a₄ ∙ mode-clampMaxCool a₃ ∙ mode-clampMinCool a₂ ∙ mode-clampMaxHeat a₁ ∙ mode-clampMinHeat a in
+      by-cond (ModeOf a) (isSupportedSystemMode cfg (b .settings .mode)) b (setMode b 0) (λ f. e) (λ f. clash (isSupportedSystemMode cfg (b .settings .mode)) (ap (isSupportedSystemMode cfg) e ∙ m) f)
+
+-- stores of setpoints and limits leave the mode
+module _ (cfg : Config) (d : Readings) where
+  abbrev SameMode : Controller → Stage → Type 0
+  SameMode r x = x .rec .attrs .settings .mode ≡ r .attrs .settings .mode
+
+  pull-heat-mode : (r : Controller) → SameMode r (pullHeating cfg d r)
+  unfolding pullHeating storeHeatingSetpoint claimSetpoints
+  pull-heat-mode r = let s = r .attrs .settings in by-cond (SameMode r) (inHeatLimits cfg s (s .heating)) (unchanged r) _ (λ e. refl) (λ e. refl)
+
+  pull-cool-mode : (r : Controller) → SameMode r (pullCooling cfg d r)
+  unfolding pullCooling storeCoolingSetpoint claimSetpoints
+  pull-cool-mode r = let s = r .attrs .settings in by-cond (SameMode r) (inCoolLimits cfg s (s .cooling)) (unchanged r) _ (λ e. refl) (λ e. refl)
+
+  raise-heat-mode : (a : Tenths) (r : Controller) → SameMode r (raiseHeating cfg d a r)
+  unfolding raiseHeating storeHeatingSetpoint claimSetpoints
+  raise-heat-mode a r = refl
+
+  raise-cool-mode : (a : Tenths) (r : Controller) → SameMode r (raiseCooling cfg d a r)
+  unfolding raiseCooling storeCoolingSetpoint claimSetpoints
+  raise-cool-mode a r = refl
+
+  raise-both-mode : (a : Tenths) (r : Controller) → SameMode r (raiseBoth cfg d a r)
+  unfolding raiseBoth
+  raise-both-mode a r =
+      let x = cond (heats cfg) (raiseHeating cfg d a r) (unchanged r) in
+      let k : SameMode r x = by-cond (SameMode r) (heats cfg) (raiseHeating cfg d a r) (unchanged r) (λ e. raise-heat-mode a r) (λ e. refl) in
+      by-cond (SameMode r) (cools cfg) (raiseCooling cfg d a (x .rec)) (unchanged (x .rec)) (λ e. raise-cool-mode a (x .rec) ∙ k) (λ e. k)
+
+  raise-mode : (mode : ℕ) (a : Tenths) (r : Controller) → SameMode r (raiseSides cfg d mode a r)
+  unfolding raiseSides
+  raise-mode mode a r =
+      by-cond (SameMode r) (eqb mode 0) _ _ (λ e. raise-heat-mode a r) (λ e. by-cond (SameMode r) (eqb mode 1) _ _ (λ f. raise-cool-mode a r) (λ f. raise-both-mode a r))
+
+module _ (cfg : Config) (v : Valid cfg) (d : Readings) (r : Controller) (g : Good cfg r) (s : sound cfg r ≡ true) where
+  abbrev mode : ℕ
+  mode = r .attrs .settings .mode
+
+  abbrev Moded : ℕ → Outcome → Type 0
+  Moded m o = o .rec .attrs .settings .mode ≡ m
+
+  guarded : (ws : List Row) (o : Outcome) → Moded mode o → Moded mode (unless ws r o)
+  guarded ws o e = by-unless (Moded mode) ws r o (λ n. refl) (λ c. e)
+
+  -- a mode write, in band or out of band: the new mode where it is supported, else the old
+  chosen-mode : (m : ℕ) (o : Outcome) → Moded m o → Moded (cond (isSupportedSystemMode cfg m) m mode) (unless (row 22 (not (isSupportedSystemMode cfg m)) ∷ []) r o)
+  unfolding unless
+  chosen-mode m o e = go (isSupportedSystemMode cfg m)
+    where
+      go : (t : Bool) → Moded (cond t m mode) (cond (not t) (quiet 22 r) o)
+      go true = e
+      go false = refl
+
+  chosen-message : (m : ℕ) (o : Outcome) → Moded m o → Moded (cond (isSupportedSystemMode cfg m) m mode) (unless (row 26 (not (isSupportedSystemMode cfg m)) ∷ []) r o)
+  unfolding unless
+  chosen-message m o e = go (isSupportedSystemMode cfg m)
+    where
+      go : (t : Bool) → Moded (cond t m mode) (cond (not t) (quiet 26 r) o)
+      go true = e
+      go false = refl
+
+  pass-28 : (ws : List Row) (o : Outcome) → unless (unsound cfg r ∷ ws) r o ≡ unless ws r o
+  unfolding unless
+  pass-28 ws o = simp s
+
+  pass-all : (o : Outcome) → unless (unsound cfg r ∷ []) r o ≡ o
+  unfolding unless
+  pass-all o = simp s
+
+  message-mode : (m : OutOfBandMessage) → Moded (modeAfter cfg mode (OutOfBand m)) (messageTaken cfg r m)
+  unfolding heatingMessage coolingMessage modeMessage limitsMessage limitsTaken askSweep
+  message-mode LocalTemperature = refl
+  message-mode RunningState = refl
+  message-mode Update = refl
+  message-mode (OccupiedHeatingSetpoint x) = refl
+  message-mode (OccupiedCoolingSetpoint x) = refl
+  message-mode (SystemMode m) = chosen-message m _ refl
+  message-mode (SetpointLimits x y z w) = mode-repaired cfg (limitsTaken cfg (r .attrs) x y z w) (g .mode)
+
+  pub step-mode : (k : Call) → Moded (modeAfter cfg mode k) (step cfg r d k)
+  unfolding step writeOccupiedHeatingSetpoint writeOccupiedCoolingSetpoint writeMinHeatSetpointLimit writeMaxHeatSetpointLimit writeMinCoolSetpointLimit writeMaxCoolSetpointLimit writeSystemMode setControlSequenceOfOperation raiseLowerSetpoint armClock outOfBandMessage seedEvents sweep timer deadline applied askSweep storeHeatingSetpoint storeCoolingSetpoint started claimSetpoints armedClock
+  step-mode (WriteOccupiedHeatingSetpoint x) = guarded _ _ refl
+  step-mode (WriteOccupiedCoolingSetpoint x) = guarded _ _ refl
+  step-mode (WriteMinHeatSetpointLimit x) = guarded _ _ (pull-heat-mode cfg d (withAttrs r (setMinHeat (r .attrs) x)))
+  step-mode (WriteMaxHeatSetpointLimit x) = guarded _ _ (pull-heat-mode cfg d (withAttrs r (setMaxHeat (r .attrs) x)))
+  step-mode (WriteMinCoolSetpointLimit x) = guarded _ _ (pull-cool-mode cfg d (withAttrs r (setMinCool (r .attrs) x)))
+  step-mode (WriteMaxCoolSetpointLimit x) = guarded _ _ (pull-cool-mode cfg d (withAttrs r (setMaxCool (r .attrs) x)))
+  step-mode (WriteSystemMode m) = subst (Moded (cond (isSupportedSystemMode cfg m) m mode)) (sym (pass-28 _ _)) (chosen-mode m _ refl)
+  step-mode (SetControlSequenceOfOperation m) = guarded _ _ refl
+  step-mode (RaiseLowerSetpoint side amount) =
+      guarded _ _ (by-unless (Moded mode) _ (armedClock cfg d r) _ (λ n. refl) (λ c. raise-mode cfg d side amount (armedClock cfg d r)))
+  step-mode ArmClock = guarded _ _ refl
+  step-mode (OutOfBand m) = subst (Moded (modeAfter cfg mode (OutOfBand m))) (sym (pass-all _)) (message-mode m)
+  step-mode SeedEvents = guarded _ _ refl
+  step-mode Sweep = guarded _ _ (ap (λ (a : Attrs). a .settings .mode) (swept-attrs cfg d r))
+  step-mode Timer = guarded _ _ (ap (λ (a : Attrs). a .settings .mode) (events-attrs cfg d r))
+  step-mode Deadline = guarded _ _ refl
