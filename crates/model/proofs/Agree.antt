@@ -19,7 +19,7 @@ use Rattle.model.specs.Attribution.{external, armedClock, claimSetpoints
 use Rattle.model.specs.Validation.{accepted}
 use Rattle.model.specs.Repair.{clampMinHeat, clampMaxHeat, clampMinCool, clampMaxCool, pullMinHeat, pullMaxHeat, clampHeating, clampCooling, pushCooling, pushHeating, repairMode, repairLimits, repairSetpoints, repaired}
 use Rattle.model.specs.Sound.{sound, unsound, lastClock}
-use Rattle.model.specs.Writes.{minHeatRows, maxHeatRows, minCoolRows, maxCoolRows, unserved, askSweep, applied, namesAbsentSide, coolingBeside, heatingBeside, storeHeatingSetpoint, storeCoolingSetpoint, pullHeating, pullCooling, limitStored, raiseHeating, raiseCooling, raiseBoth, raiseSides, writeOccupiedHeatingSetpoint, writeOccupiedCoolingSetpoint, writeMinHeatSetpointLimit, writeMaxHeatSetpointLimit, writeMinCoolSetpointLimit, writeMaxCoolSetpointLimit, writeSystemMode, setControlSequenceOfOperation, raiseLowerSetpoint, armClock}
+use Rattle.model.specs.Writes.{minHeatRows, maxHeatRows, minCoolRows, maxCoolRows, unserved, askSweep, applied, namesAbsentSide, tooNearCooling, tooNearHeating, coolingBeside, heatingBeside, storeHeatingSetpoint, storeCoolingSetpoint, pullHeating, pullCooling, limitStored, raiseHeating, raiseCooling, raiseBoth, raiseSides, writeOccupiedHeatingSetpoint, writeOccupiedCoolingSetpoint, writeMinHeatSetpointLimit, writeMaxHeatSetpointLimit, writeMinCoolSetpointLimit, writeMaxCoolSetpointLimit, writeSystemMode, setControlSequenceOfOperation, raiseLowerSetpoint, armClock}
 use Rattle.model.specs.Messages.{messageTaken, heatingMessage, coolingMessage, modeMessage, limitsMessage, limitsTaken, outOfBandMessage}
 use Rattle.model.specs.Sweep.{late, takeEvents, swept, sweep, timer, started, seedEvents, deadline}
 use Rattle.model.specs.Step.{opened, step}
@@ -93,11 +93,11 @@ module _ (cfg : Config) (s t : Settings) (k : SameLimits s t) where
 
   -- the other setpoint beside a stored one
   same-beside-cool : (x y : Hundredths) → x ≡ y → s .cooling ≡ t .cooling → coolingBeside cfg s x ≡ coolingBeside cfg t y
-  unfolding coolingBeside clampCoolSetpoint
+  unfolding coolingBeside tooNearCooling clampCoolSetpoint
   same-beside-cool x y e c = let l = limits-in-force in simp (e, c, l .min-cool, l .max-cool)
 
   same-beside-heat : (x y : Hundredths) → x ≡ y → s .heating ≡ t .heating → heatingBeside cfg s x ≡ heatingBeside cfg t y
-  unfolding heatingBeside clampHeatSetpoint
+  unfolding heatingBeside tooNearHeating clampHeatSetpoint
   same-beside-heat x y e h = let l = limits-in-force in simp (e, h, l .min-heat, l .max-heat)
 
   same-raised-heat : (a : Tenths) → s .heating ≡ t .heating → raised (s .heating) a (minHeatSetpoint cfg s) (maxHeatSetpoint cfg s) ≡ raised (t .heating) a (minHeatSetpoint cfg t) (maxHeatSetpoint cfg t)

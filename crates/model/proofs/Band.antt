@@ -22,7 +22,7 @@ use Rattle.model.specs.Modes.{isSupportedSystemMode}
 use Rattle.model.specs.Attribution.{external, armedClock, claimSetpoints, servedSetpoints}
 use Rattle.model.specs.Validation.{accepted}
 use Rattle.model.specs.Repair.{clampHeating, clampCooling, pushCooling, pushHeating, repairMode, repairLimits, repairSetpoints, repaired}
-use Rattle.model.specs.Writes.{askSweep, applied, coolingBeside, heatingBeside, storeHeatingSetpoint, storeCoolingSetpoint, pullHeating, pullCooling, limitStored, raiseHeating, raiseCooling, raiseBoth, raiseSides, writeOccupiedHeatingSetpoint, writeOccupiedCoolingSetpoint, writeMinHeatSetpointLimit, writeMaxHeatSetpointLimit, writeMinCoolSetpointLimit, writeMaxCoolSetpointLimit, writeSystemMode, setControlSequenceOfOperation, raiseLowerSetpoint, armClock}
+use Rattle.model.specs.Writes.{askSweep, applied, tooNearCooling, tooNearHeating, coolingBeside, heatingBeside, storeHeatingSetpoint, storeCoolingSetpoint, pullHeating, pullCooling, limitStored, raiseHeating, raiseCooling, raiseBoth, raiseSides, writeOccupiedHeatingSetpoint, writeOccupiedCoolingSetpoint, writeMinHeatSetpointLimit, writeMaxHeatSetpointLimit, writeMinCoolSetpointLimit, writeMaxCoolSetpointLimit, writeSystemMode, setControlSequenceOfOperation, raiseLowerSetpoint, armClock}
 use Rattle.model.specs.Messages.{messageTaken, heatingMessage, coolingMessage, modeMessage, limitsMessage, limitsTaken, outOfBandMessage}
 use Rattle.model.specs.Sweep.{Taken, snapshotOf, sameSnapshot, localRecorded, attributedTo, attributeLocalSetpointChange, started, takenFrom, takeEvents, sweepEvents, swept, sweep, timer, seedEvents, deadline}
 use Rattle.model.specs.Step.{opened, step}
@@ -49,22 +49,22 @@ use Rattle.model.proofs.Kept.{Good, step-good, opened-good, raised-heat
 module _ (cfg : Config) (s : Settings) (k : InForce cfg s) where
   -- a heating value within its limits, and cooling beside it
   heating-gap : (h : Hundredths) → inHeatLimits cfg s h ≡ true → auto cfg ≡ true → (h .0 +ℤ deadBand cfg .0) ≤ℤ coolingBeside cfg s h .0
-  unfolding coolingBeside clampCoolSetpoint inHeatLimits clamped plus
+  unfolding coolingBeside tooNearCooling clampCoolSetpoint inHeatLimits clamped plus
   heating-gap h e a =
       let d = deadBand cfg in
       let i = inside h (minHeatSetpoint cfg s) (maxHeatSetpoint cfg s) e in
       let u = k .high a in
-      by-cond (λ (x : Hundredths). (h .0 +ℤ d .0) ≤ℤ x .0) (auto cfg && above h (minus (s .cooling) d)) _ (s .cooling)
+      by-cond (λ (x : Hundredths). (h .0 +ℤ d .0) ≤ℤ x .0) (tooNearCooling cfg s h) _ (s .cooling)
       (λ t. clamp-above (h .0 +ℤ d .0) (h .0 +ℤ d .0) (minCoolSetpoint cfg s .0) (maxCoolSetpoint cfg s .0) (≤ℤ-refl (h .0 +ℤ d .0)) (omega (linear, sum-parts (h .0) (d .0), sum-parts (maxHeatSetpoint cfg s .0) (d .0))))
       (λ t. apart h (s .cooling) d (not-both (auto cfg) _ t a))
 
   cooling-gap : (c : Hundredths) → inCoolLimits cfg s c ≡ true → auto cfg ≡ true → (heatingBeside cfg s c .0 +ℤ deadBand cfg .0) ≤ℤ c .0
-  unfolding heatingBeside clampHeatSetpoint inCoolLimits clamped minus
+  unfolding heatingBeside tooNearHeating clampHeatSetpoint inCoolLimits clamped minus
   cooling-gap c e a =
       let d = deadBand cfg in
       let i = inside c (minCoolSetpoint cfg s) (maxCoolSetpoint cfg s) e in
       let u = k .low a in
-      by-cond (λ (x : Hundredths). (x .0 +ℤ d .0) ≤ℤ c .0) (auto cfg && below c (plus (s .heating) d)) _ (s .heating)
+      by-cond (λ (x : Hundredths). (x .0 +ℤ d .0) ≤ℤ c .0) (tooNearHeating cfg s c) _ (s .heating)
       (λ t. let y = clampZ (c .0 -ℤ d .0) (minHeatSetpoint cfg s .0) (maxHeatSetpoint cfg s .0) in
       let b = clamp-below (c .0 -ℤ d .0) (c .0 -ℤ d .0) (minHeatSetpoint cfg s .0) (maxHeatSetpoint cfg s .0) (≤ℤ-refl (c .0 -ℤ d .0)) (omega (linear, diff-parts (c .0) (d .0), sum-parts (minHeatSetpoint cfg s .0) (d .0))) in
       omega (linear, sum-parts y (d .0), diff-parts (c .0) (d .0)))

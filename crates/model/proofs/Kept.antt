@@ -21,7 +21,7 @@ use Rattle.model.specs.Modes.{isSupportedSystemMode}
 use Rattle.model.specs.Attribution.{external, armedClock, claimSetpoints, servedSetpoints}
 use Rattle.model.specs.Validation.{accepted}
 use Rattle.model.specs.Sound.{lastClock, soundHeatLimits, soundCoolLimits, soundGap, soundHeating, soundCooling, soundSettings, soundLast, sound}
-use Rattle.model.specs.Writes.{minHeatRows, maxHeatRows, minCoolRows, maxCoolRows, askSweep, applied, thenNoticed, coolingBeside, heatingBeside, storeHeatingSetpoint, storeCoolingSetpoint, pullHeating, pullCooling, limitStored, raiseHeating, raiseCooling, raiseBoth, raiseSides, writeOccupiedHeatingSetpoint, writeOccupiedCoolingSetpoint, writeMinHeatSetpointLimit, writeMaxHeatSetpointLimit, writeMinCoolSetpointLimit, writeMaxCoolSetpointLimit, writeSystemMode, setControlSequenceOfOperation, raiseLowerSetpoint, armClock}
+use Rattle.model.specs.Writes.{minHeatRows, maxHeatRows, minCoolRows, maxCoolRows, askSweep, applied, thenNoticed, tooNearCooling, tooNearHeating, coolingBeside, heatingBeside, storeHeatingSetpoint, storeCoolingSetpoint, pullHeating, pullCooling, limitStored, raiseHeating, raiseCooling, raiseBoth, raiseSides, writeOccupiedHeatingSetpoint, writeOccupiedCoolingSetpoint, writeMinHeatSetpointLimit, writeMaxHeatSetpointLimit, writeMinCoolSetpointLimit, writeMaxCoolSetpointLimit, writeSystemMode, setControlSequenceOfOperation, raiseLowerSetpoint, armClock}
 use Rattle.model.specs.Messages.{messageTaken, heatingMessage, coolingMessage, modeMessage, limitsMessage, limitsTaken, outOfBandMessage}
 use Rattle.model.specs.Repair.{repaired}
 use Rattle.model.specs.Sweep.{Taken, snapshotOf, started, attributedTo, localRecorded, attributeLocalSetpointChange, sameSnapshot, committed, tellsTemperature, takenFrom, takeEvents, late, noticeTable, tableNotices, notify, sweepEvents, swept, sweep, timer, seedEvents, deadline}
@@ -91,14 +91,14 @@ module _ (cfg : Config) (v : Valid cfg) (s : Settings) (t : LimitTests cfg s) wh
   beside-cooling : (h : Hundredths) → (cools cfg ≡ true → inCoolLimits cfg s (s .cooling) ≡ true) → cools cfg ≡ true → inCoolLimits cfg s (coolingBeside cfg s h) ≡ true
   unfolding coolingBeside
   beside-cooling h old c =
-      by-cond (λ (x : Hundredths). inCoolLimits cfg s x ≡ true) (auto cfg && above h (minus (s .cooling) (deadBand cfg))) _ (s .cooling)
-      (λ e. cool-clamped cfg s (plus h (deadBand cfg)) chain) (λ e. old c)
+      by-cond (λ (x : Hundredths). inCoolLimits cfg s x ≡ true) (tooNearCooling cfg s h) _ (s .cooling)
+      (λ e. cool-clamped cfg s _ chain) (λ e. old c)
 
   beside-heating : (c : Hundredths) → (heats cfg ≡ true → inHeatLimits cfg s (s .heating) ≡ true) → heats cfg ≡ true → inHeatLimits cfg s (heatingBeside cfg s c) ≡ true
   unfolding heatingBeside
   beside-heating c old h =
-      by-cond (λ (x : Hundredths). inHeatLimits cfg s x ≡ true) (auto cfg && below c (plus (s .heating) (deadBand cfg))) _ (s .heating)
-      (λ e. heat-clamped cfg s (minus c (deadBand cfg)) chain) (λ e. old h)
+      by-cond (λ (x : Hundredths). inHeatLimits cfg s x ≡ true) (tooNearHeating cfg s c) _ (s .heating)
+      (λ e. heat-clamped cfg s _ chain) (λ e. old h)
 
 pub heating-inside : (cfg : Config) (s : Settings) → soundHeating cfg s ≡ true → heats cfg ≡ true → inHeatLimits cfg s (s .heating) ≡ true
 unfolding soundHeating

@@ -1,3 +1,4 @@
+pub mod Acceptance
 pub mod Packing
 pub mod Logic
 pub mod Bounds
@@ -8,5 +9,6 @@ pub mod Repair
 pub mod Kept
 pub mod Band
 pub mod Agree
-pub mod Agreement
 pub mod Mode
+pub mod Agreement
+pub mod Examples

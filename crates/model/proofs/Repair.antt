@@ -216,12 +216,12 @@ module _ (cfg : Config) (v : Valid cfg) where
   pub cooling-pushed : (b : Attrs) → Set b → Set (pushCooling cfg b)
   unfolding pushCooling
   cooling-pushed b k =
-      by-cond Set (auto cfg) _ b (λ e. cooling-moved b (greater (widened (b .settings .cooling)) (plus (b .settings .heating) (deadBand cfg))) k) (λ f. k)
+      by-cond Set (auto cfg) _ b (λ e. cooling-moved b _ k) (λ f. k)
 
   heating-pushed : (b : Attrs) → Set b → Set (pushHeating cfg b)
   unfolding pushHeating
   heating-pushed b k =
-      by-cond Set (auto cfg) _ b (λ e. heating-moved b (lesser (widened (b .settings .heating)) (minus (b .settings .cooling) (deadBand cfg))) k) (λ f. k)
+      by-cond Set (auto cfg) _ b (λ e. heating-moved b _ k) (λ f. k)
 
   pub setpoints-clamped : (a : Attrs) → LimitTests cfg (a .settings) → Set (clampCooling cfg (clampHeating cfg a))
   setpoints-clamped a t = cooling-clamped (clampHeating cfg a) (heating-clamped a t)

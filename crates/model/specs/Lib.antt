@@ -16,5 +16,6 @@ pub mod Sweep
 pub mod Step
 pub mod Plant
 pub mod Laws
-pub mod Cases
 pub mod Claims
+pub mod Examples
+pub mod Everything

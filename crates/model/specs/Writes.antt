@@ -53,13 +53,20 @@ applied cfg d s = record {
 unfoldable pub sourceNotices : Config → List ℕ
 sourceNotices cfg = noticed cfg 0x30 ++ (noticed cfg 0x31 ++ noticed cfg 0x32)
 
--- with AUTO, if heating v exceeds cooling − dead band, cooling becomes clamped heating + dead band
+-- with AUTO, a heating value that exceeds cooling − dead band
+unfoldable pub tooNearCooling : Config → Settings → Hundredths → Bool
+tooNearCooling cfg s v = auto cfg && above v (minus (s .cooling) (deadBand cfg))
+
+unfoldable pub tooNearHeating : Config → Settings → Hundredths → Bool
+tooNearHeating cfg s v = auto cfg && below v (plus (s .heating) (deadBand cfg))
+
+-- then cooling becomes clamped heating + dead band
 unfoldable pub coolingBeside : Config → Settings → Hundredths → Hundredths
-coolingBeside cfg s v = cond (auto cfg && above v (minus (s .cooling) (deadBand cfg))) (clampCoolSetpoint cfg s (plus v (deadBand cfg))) (s .cooling)
+coolingBeside cfg s v = cond (tooNearCooling cfg s v) (clampCoolSetpoint cfg s (plus v (deadBand cfg))) (s .cooling)
 
 -- cooling mirrors this
 unfoldable pub heatingBeside : Config → Settings → Hundredths → Hundredths
-heatingBeside cfg s v = cond (auto cfg && below v (plus (s .heating) (deadBand cfg))) (clampHeatSetpoint cfg s (minus v (deadBand cfg))) (s .heating)
+heatingBeside cfg s v = cond (tooNearHeating cfg s v) (clampHeatSetpoint cfg s (minus v (deadBand cfg))) (s .heating)
 
 -- a change that differs is recorded, with the saturated difference
 unfoldable pub recordedIf : Bool → Readings → ℕ → Hundredths → Hundredths → SetpointChangeState → SetpointChangeState
