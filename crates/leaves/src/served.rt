@@ -1,0 +1,140 @@
+// model/specs/Served: what a configuration lists.
+ghost use mathlib.Core.Path.{_≡_};
+ghost use mathlib.Core.Bool.{_&&_, _||_};
+ghost use Rattle.model.specs.Served as spec;
+use model::Config;
+
+pub fn supports_feature(cfg: Config, feature: u32) -> bool
+    ensures { λ r. ⌜ r ≡ spec.supports cfg feature ⌝ }
+{
+    cfg.features & feature != 0
+}
+
+pub fn heats(cfg: Config) -> bool
+    ensures { λ r. ⌜ r ≡ spec.heats cfg ⌝ }
+{
+    supports_feature(cfg, 0x01)
+}
+
+pub fn cools(cfg: Config) -> bool
+    ensures { λ r. ⌜ r ≡ spec.cools cfg ⌝ }
+{
+    supports_feature(cfg, 0x02)
+}
+
+pub fn auto(cfg: Config) -> bool
+    ensures { λ r. ⌜ r ≡ spec.auto cfg ⌝ }
+{
+    supports_feature(cfg, 0x20)
+}
+
+// LTNE
+pub fn hides_temperature(cfg: Config) -> bool
+    ensures { λ r. ⌜ r ≡ spec.hidesTemperature cfg ⌝ }
+{
+    supports_feature(cfg, 0x40)
+}
+
+// TEVT
+pub fn tells_events(cfg: Config) -> bool
+    ensures { λ r. ⌜ r ≡ spec.tellsEvents cfg ⌝ }
+{
+    supports_feature(cfg, 0x200)
+}
+
+// The bit of a code in a set.
+pub fn listed(set: u64, code: u16) -> bool
+    ensures { λ r. ⌜ r ≡ spec.listed set code ⌝ }
+{
+    if code < 64 {
+        return (set >> code) % 2 == 1;
+    }
+    false
+}
+
+pub fn serves(cfg: Config, code: u16) -> bool
+    ensures { λ r. ⌜ r ≡ spec.serves cfg code ⌝ }
+{
+    listed(cfg.attributes, code)
+}
+
+pub fn emits(cfg: Config, code: u16) -> bool
+    ensures { λ r. ⌜ r ≡ spec.emits cfg code ⌝ }
+{
+    listed(cfg.events, code)
+}
+
+pub fn emits_any(cfg: Config) -> bool
+    ensures { λ r. ⌜ r ≡ spec.emitsAny cfg ⌝ }
+{
+    cfg.events != 0
+}
+
+fn all_four(a: bool, b: bool, c: bool, d: bool) -> bool
+    ensures { λ r. ⌜ r ≡ (a && b) && (c && d) ⌝ }
+{
+    if a {
+        if b {
+            return c && d;
+        }
+        return false;
+    }
+    false
+}
+
+fn any_of_four(a: bool, b: bool, c: bool, d: bool) -> bool
+    ensures { λ r. ⌜ r ≡ (a || b) || (c || d) ⌝ }
+{
+    if a {
+        return true;
+    }
+    if b {
+        return true;
+    }
+    c || d
+}
+
+// The four limit attributes of heating: ABS minimum and maximum, minimum and maximum.
+pub fn has_heat_limits(cfg: Config) -> bool
+    ensures { λ r. ⌜ r ≡ spec.hasHeatLimits cfg ⌝ }
+{
+    all_four(
+        serves(cfg, 0x03),
+        serves(cfg, 0x04),
+        serves(cfg, 0x15),
+        serves(cfg, 0x16),
+    )
+}
+
+pub fn has_cool_limits(cfg: Config) -> bool
+    ensures { λ r. ⌜ r ≡ spec.hasCoolLimits cfg ⌝ }
+{
+    all_four(
+        serves(cfg, 0x05),
+        serves(cfg, 0x06),
+        serves(cfg, 0x17),
+        serves(cfg, 0x18),
+    )
+}
+
+pub fn has_some_heat_limit(cfg: Config) -> bool
+    ensures { λ r. ⌜ r ≡ spec.someHeatLimit cfg ⌝ }
+{
+    any_of_four(
+        serves(cfg, 0x03),
+        serves(cfg, 0x04),
+        serves(cfg, 0x15),
+        serves(cfg, 0x16),
+    )
+}
+
+pub fn has_some_cool_limit(cfg: Config) -> bool
+    ensures { λ r. ⌜ r ≡ spec.someCoolLimit cfg ⌝ }
+{
+    any_of_four(
+        serves(cfg, 0x05),
+        serves(cfg, 0x06),
+        serves(cfg, 0x17),
+        serves(cfg, 0x18),
+    )
+}
