@@ -7,4 +7,5 @@ pub mod limits;
 pub mod modes;
 pub mod records;
 pub mod served;
+pub mod orders;
 pub mod temperature;

@@ -22,7 +22,8 @@ use Rattle.model.specs.Modes.{isSupportedSystemMode}
 use Rattle.model.specs.Attribution.{external, armedClock, claimSetpoints, servedSetpoints}
 use Rattle.model.specs.Validation.{accepted}
 use Rattle.model.specs.Repair.{clampHeating, clampCooling, pushCooling, pushHeating, repairMode, repairLimits, repairSetpoints, repaired}
-use Rattle.model.specs.Writes.{askSweep, applied, tooNearCooling, tooNearHeating, coolingBeside, heatingBeside, storeHeatingSetpoint, storeCoolingSetpoint, pullHeating, pullCooling, limitStored, raiseHeating, raiseCooling, raiseBoth, raiseSides, writeOccupiedHeatingSetpoint, writeOccupiedCoolingSetpoint, writeMinHeatSetpointLimit, writeMaxHeatSetpointLimit, writeMinCoolSetpointLimit, writeMaxCoolSetpointLimit, writeSystemMode, setControlSequenceOfOperation, raiseLowerSetpoint, armClock}
+use Rattle.model.specs.Orders.{askSweep}
+use Rattle.model.specs.Writes.{applied, tooNearCooling, tooNearHeating, coolingBeside, heatingBeside, storeHeatingSetpoint, storeCoolingSetpoint, pullHeating, pullCooling, limitStored, raiseHeating, raiseCooling, raiseBoth, raiseSides, writeOccupiedHeatingSetpoint, writeOccupiedCoolingSetpoint, writeMinHeatSetpointLimit, writeMaxHeatSetpointLimit, writeMinCoolSetpointLimit, writeMaxCoolSetpointLimit, writeSystemMode, setControlSequenceOfOperation, raiseLowerSetpoint, armClock}
 use Rattle.model.specs.Messages.{messageTaken, heatingMessage, coolingMessage, modeMessage, limitsMessage, limitsTaken, outOfBandMessage}
 use Rattle.model.specs.Sweep.{Taken, snapshotOf, sameSnapshot, localRecorded, attributedTo, attributeLocalSetpointChange, started, takenFrom, takeEvents, sweepEvents, swept, sweep, timer, seedEvents, deadline}
 use Rattle.model.specs.Step.{opened, step}

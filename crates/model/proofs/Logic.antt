@@ -9,7 +9,7 @@ use lib.Dec.{eqb, ltb}
 use borrow.Author.Tests.{ltb-true, ne-eqb}
 use lib.ListN.{length}
 use Rattle.model.specs.Answers.{Outcome, onlyIf, quiet}
-use Rattle.model.specs.Refusals.{Row, firstFailing, unless, Clear, numbered}
+use Rattle.model.specs.Refusals.{Row, firstFailing, thenRows, unless, Clear, numbered}
 use Rattle.model.specs.declared.Controller.{Controller}
 
 pub both : (a b : Bool) → a && b ≡ true → (a ≡ true) × (b ≡ true)
@@ -117,17 +117,16 @@ pub clear-append : (ws vs : List Row) → Clear (ws ++ vs) → Clear ws × Clear
 clear-append [] vs c = (tt, c)
 clear-append (w ∷ ws) vs c = let k = clear-append ws vs (c .1) in ((c .0, k .0), k .1)
 
--- a number of one list, or else of the next
-first-or : (t : Bool) (n a b v : ℕ) → ltb 0 n ≡ true → b ≡ cond (eqb a 0) v a → cond t n b ≡ cond (eqb (cond t n a) 0) v (cond t n a)
-first-or true n a b v e f = rw (ne-eqb n 0 (λ z. omega (arith, ltb-true 0 n e)))
-first-or false n a b v e f = f
+-- rows in turn
+pub then-append : (ws vs : List Row) (rest : ℕ) → thenRows (ws ++ vs) rest ≡ thenRows ws (thenRows vs rest)
+unfolding thenRows
+then-append [] vs rest = refl
+then-append (w ∷ ws) vs rest = ap (λ (n : ℕ). cond (w .cause) (w .number) n) (then-append ws vs rest)
 
-pub first-append : (ws vs : List Row) → numbered ws ≡ true → firstFailing (ws ++ vs) ≡ cond (eqb (firstFailing ws) 0) (firstFailing vs) (firstFailing ws)
-unfolding firstFailing
-first-append [] vs e = refl
-first-append (w ∷ ws) vs e =
-    let b = both (ltb 0 (w .number)) (numbered ws) e in
-    first-or (w .cause) (w .number) (firstFailing ws) (firstFailing (ws ++ vs)) (firstFailing vs) (b .0) (first-append ws vs (b .1))
+pub first-then : (ws : List Row) → firstFailing ws ≡ thenRows ws 0
+unfolding firstFailing thenRows
+first-then [] = refl
+first-then (w ∷ ws) = ap (λ (n : ℕ). cond (w .cause) (w .number) n) (first-then ws)
 
 pub length-onlyIf : {A : Type 0} (t : Bool) (l : List A) → length (onlyIf t l) ≤ length l
 unfolding onlyIf

@@ -9,13 +9,13 @@ use borrow.Author.Tests.{eqb-true, not-true, not-false}
 use Rattle.integers.specs.Linear.{linear, sum-parts, diff-parts, scale-parts}
 use Rattle.units.specs.Units.{inHundredths, less, minus, above, negative}
 use Rattle.units.specs.declared.Hundredths.{Hundredths}
-use Rattle.model.specs.Refusals.{Clear}
+use Rattle.model.specs.Refusals.{Clear, thenRows}
 use Rattle.model.specs.Records.{zeroHundredths}
 use Rattle.model.specs.Served.{heats, cools, auto, serves, hasHeatLimits, hasCoolLimits, someHeatLimit, someCoolLimit}
 use Rattle.model.specs.Units.{deadBand}
 use Rattle.model.specs.Validation.{differ, featureRows, attributeRows, limitRows, eventRows, numberRows, validated, accepted}
 use Rattle.model.specs.declared.Config.{Config}
-use Rattle.model.proofs.Logic.{both, neither, not-both, clear, clear-append, by-cond}
+use Rattle.model.proofs.Logic.{both, neither, not-both, clear, clear-append, then-append, first-then, by-cond}
 
 pub record Valid (cfg : Config) : Type 0 where
   pub heat-abs : cfg .absminheat .0 ≤ℤ cfg .absmaxheat .0
@@ -102,3 +102,13 @@ module _ (cfg : Config) (ok : accepted cfg ≡ true) where
         limits-heat = then-also (hasHeatLimits cfg) (heats cfg) (sides .0);
         limits-cool = then-also (hasCoolLimits cfg) (cools cfg) (sides .1);
       }
+
+-- the number of a configuration, group by group
+pub validated-rows : (cfg : Config) → validated cfg ≡ thenRows (featureRows cfg) (thenRows (attributeRows cfg) (thenRows (limitRows cfg) (thenRows (eventRows cfg) (thenRows (numberRows cfg) 0))))
+unfolding validated
+validated-rows cfg =
+    first-then (featureRows cfg ++ (attributeRows cfg ++ (limitRows cfg ++ (eventRows cfg ++ numberRows cfg))))
+    ∙ then-append (featureRows cfg) (attributeRows cfg ++ (limitRows cfg ++ (eventRows cfg ++ numberRows cfg))) 0
+    ∙ ap (thenRows (featureRows cfg)) (then-append (attributeRows cfg) (limitRows cfg ++ (eventRows cfg ++ numberRows cfg)) 0
+    ∙ ap (thenRows (attributeRows cfg)) (then-append (limitRows cfg) (eventRows cfg ++ numberRows cfg) 0
+    ∙ ap (thenRows (limitRows cfg)) (then-append (eventRows cfg) (numberRows cfg) 0)))

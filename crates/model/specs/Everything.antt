@@ -7,6 +7,7 @@ use Rattle.model.specs.Claims.{numbers, run}
 use Rattle.model.specs.Limits.{clampCoolSetpoint, clampHeatSetpoint, inCoolLimits, inHeatLimits, maxCoolSetpoint, maxHeatSetpoint, minCoolSetpoint, minHeatSetpoint}
 use Rattle.model.specs.Messages.{coolingMessage, heatingMessage, limitsMessage, limitsTaken, modeMessage, outOfBandMessage}
 use Rattle.model.specs.Modes.{isSupportedSystemMode, relayMask, runningMode, runningState, sequenceCools, sequenceHeats}
+use Rattle.model.specs.Orders.{askSweep}
 use Rattle.model.specs.Refusals.{firstFailing, unless}
 use Rattle.model.specs.Repair.{clampCooling, clampHeating, clampMaxCool, clampMaxHeat, clampMinCool, clampMinHeat, pullMaxHeat, pullMinHeat, pushCooling, pushHeating, repairLimits, repairMode, repairSetpoints, repaired}
 use Rattle.model.specs.Served.{emitsAny, hasCoolLimits, hasHeatLimits, listed, someCoolLimit, someHeatLimit, supports}
@@ -16,8 +17,8 @@ use Rattle.model.specs.Sweep.{attributeLocalSetpointChange, committed, d
 use Rattle.model.specs.Temperature.{eventDue, reportedTemperature}
 use Rattle.model.specs.Units.{deadBand}
 use Rattle.model.specs.Validation.{accepted, attributeRows, eventRows, featureRows, limitRows, numberRows, validated}
-use Rattle.model.specs.Writes.{applied, armClock, askSweep, coolingBeside, heatingBeside, namesAbsentSide, pullCooling, pullHeating, raiseBoth, raiseCooling, raiseHeating, raiseLowerSetpoint, raiseSides, recordedIf, relayNotices, setControlSequenceOfOperation, sourceNotices, storeCoolingSetpoint, storeHeatingSetpoint, tooNearCooling, tooNearHeating, writeMaxCoolSetpointLimit, writeMaxHeatSetpointLimit, writeMinCoolSetpointLimit, writeMinHeatSetpointLimit, writeOccupiedCoolingSetpoint, writeOccupiedHeatingSetpoint, writeSystemMode}
+use Rattle.model.specs.Writes.{applied, armClock, coolingBeside, heatingBeside, namesAbsentSide, pullCooling, pullHeating, raiseBoth, raiseCooling, raiseHeating, raiseLowerSetpoint, raiseSides, recordedIf, relayNotices, setControlSequenceOfOperation, sourceNotices, storeCoolingSetpoint, storeHeatingSetpoint, tooNearCooling, tooNearHeating, writeMaxCoolSetpointLimit, writeMaxHeatSetpointLimit, writeMinCoolSetpointLimit, writeMinHeatSetpointLimit, writeOccupiedCoolingSetpoint, writeOccupiedHeatingSetpoint, writeSystemMode}
 
 unfoldable pub everything : Unit {0}
-unfolding clampZ maxZ minZ above apart below clamped equal greater inHundredths less lesser minus negative plus raised saturatedDifference widened within emit emitAll onlyIf packed packedEvents push pushAll armedClock claimSetpoints recorded servedSetpoints numbers run clampCoolSetpoint clampHeatSetpoint inCoolLimits inHeatLimits maxCoolSetpoint maxHeatSetpoint minCoolSetpoint minHeatSetpoint coolingMessage heatingMessage limitsMessage limitsTaken modeMessage outOfBandMessage isSupportedSystemMode relayMask runningMode runningState sequenceCools sequenceHeats firstFailing unless clampCooling clampHeating clampMaxCool clampMaxHeat clampMinCool clampMinHeat pullMaxHeat pullMinHeat pushCooling pushHeating repairLimits repairMode repairSetpoints repaired emitsAny hasCoolLimits hasHeatLimits listed someCoolLimit someHeatLimit supports sound soundCoolLimits soundCooling soundGap soundHeatLimits soundHeating soundSettings opened step attributeLocalSetpointChange committed deadline deferredDeadline eventsOf rowNotices sameSnapshot seedEvents snapshotOf started sweep sweepEvents swept tableNotices takeEvents tellsCooling tellsHeating tellsMode tellsRelays tellsRunningMode tellsTemperature timer eventDue reportedTemperature deadBand accepted attributeRows eventRows featureRows limitRows numberRows validated applied armClock askSweep coolingBeside heatingBeside namesAbsentSide pullCooling pullHeating raiseBoth raiseCooling raiseHeating raiseLowerSetpoint raiseSides recordedIf relayNotices setControlSequenceOfOperation sourceNotices storeCoolingSetpoint storeHeatingSetpoint tooNearCooling tooNearHeating writeMaxCoolSetpointLimit writeMaxHeatSetpointLimit writeMinCoolSetpointLimit writeMinHeatSetpointLimit writeOccupiedCoolingSetpoint writeOccupiedHeatingSetpoint writeSystemMode
+unfolding clampZ maxZ minZ above apart below clamped equal greater inHundredths less lesser minus negative plus raised saturatedDifference widened within emit emitAll onlyIf packed packedEvents push pushAll armedClock claimSetpoints recorded servedSetpoints numbers run clampCoolSetpoint clampHeatSetpoint inCoolLimits inHeatLimits maxCoolSetpoint maxHeatSetpoint minCoolSetpoint minHeatSetpoint coolingMessage heatingMessage limitsMessage limitsTaken modeMessage outOfBandMessage isSupportedSystemMode relayMask runningMode runningState sequenceCools sequenceHeats askSweep firstFailing unless clampCooling clampHeating clampMaxCool clampMaxHeat clampMinCool clampMinHeat pullMaxHeat pullMinHeat pushCooling pushHeating repairLimits repairMode repairSetpoints repaired emitsAny hasCoolLimits hasHeatLimits listed someCoolLimit someHeatLimit supports sound soundCoolLimits soundCooling soundGap soundHeatLimits soundHeating soundSettings opened step attributeLocalSetpointChange committed deadline deferredDeadline eventsOf rowNotices sameSnapshot seedEvents snapshotOf started sweep sweepEvents swept tableNotices takeEvents tellsCooling tellsHeating tellsMode tellsRelays tellsRunningMode tellsTemperature timer eventDue reportedTemperature deadBand accepted attributeRows eventRows featureRows limitRows numberRows validated applied armClock coolingBeside heatingBeside namesAbsentSide pullCooling pullHeating raiseBoth raiseCooling raiseHeating raiseLowerSetpoint raiseSides recordedIf relayNotices setControlSequenceOfOperation sourceNotices storeCoolingSetpoint storeHeatingSetpoint tooNearCooling tooNearHeating writeMaxCoolSetpointLimit writeMaxHeatSetpointLimit writeMinCoolSetpointLimit writeMinHeatSetpointLimit writeOccupiedCoolingSetpoint writeOccupiedHeatingSetpoint writeSystemMode
 everything = tt

@@ -2,6 +2,7 @@ pub mod Records
 pub mod Answers
 pub mod Refusals
 pub mod Served
+pub mod Orders
 pub mod Units
 pub mod Limits
 pub mod Modes

@@ -10,12 +10,10 @@ use Rattle.model.specs.Answers.{Outcome, quiet}
 use Rattle.model.specs.Refusals.{row, unless}
 use Rattle.model.specs.Limits.{clampHeatSetpoint, clampCoolSetpoint}
 use Rattle.model.specs.Modes.{isSupportedSystemMode}
-use Rattle.model.specs.Repair.{repaired}
+use Rattle.model.specs.Repair.{repairedRecord}
 use Rattle.model.specs.Sound.{unsound}
-use Rattle.model.specs.Writes.{orderOf, askSweep}
 use Rattle.model.specs.declared.Config.{Config}
 use Rattle.model.specs.declared.Attrs.{Attrs}
-use Rattle.model.specs.declared.Moment.the-variants.{Never}
 use Rattle.model.specs.declared.Controller.{Controller}
 use Rattle.model.specs.declared.OutOfBandMessage.{OutOfBandMessage}
 use Rattle.model.specs.declared.OutOfBandMessage.the-variants.{LocalTemperature, RunningState, Update, OccupiedHeatingSetpoint, OccupiedCoolingSetpoint, SystemMode, SetpointLimits}
@@ -29,17 +27,6 @@ unfoldable pub limitsTaken : Config → Attrs → Hundredths → Hundredths → 
 limitsTaken cfg a minh maxh minc maxc =
     setLimits a (clamped (widened minh) (cfg .absminheat) (cfg .absmaxheat)) (clamped (widened maxh) (cfg .absminheat) (cfg .absmaxheat))
     (clamped (widened minc) (cfg .absmincool) (cfg .absmaxcool)) (clamped (widened maxc) (cfg .absmincool) (cfg .absmaxcool))
-
--- repair of a record: no notices, whatever the relays do, and a plant order
-abbrev pub repairedRecord : Config → Controller → Attrs → Outcome
-repairedRecord cfg r a = record {
-  number = 0;
-  rec = askSweep cfg (withAttrs r (repaired cfg a));
-  order = orderOf (repaired cfg a .settings);
-  notices = [];
-  events = [];
-  deadline = Never;
-}
 
 abbrev pub withRecord : Outcome → (Controller → Controller) → Outcome
 withRecord o f = record { number = o .number; rec = f (o .rec); order = o .order; notices = o .notices; events = o .events; deadline = o .deadline }

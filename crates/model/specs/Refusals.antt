@@ -20,6 +20,11 @@ unfoldable pub firstFailing : List Row → ℕ
 firstFailing [] = 0
 firstFailing (w ∷ ws) = cond (w .cause) (w .number) (firstFailing ws)
 
+-- the first failure's number, or else the rest's
+unfoldable pub thenRows : List Row → ℕ → ℕ
+thenRows [] rest = rest
+thenRows (w ∷ ws) rest = cond (w .cause) (w .number) (thenRows ws rest)
+
 -- refused with the first failure's number and the record as given, else the outcome
 unfoldable pub unless : List Row → Controller → Outcome → Outcome
 unless [] r o = o

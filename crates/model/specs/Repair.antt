@@ -1,13 +1,18 @@
 -- Document 01, Repair: each step by itself, on the settings with their dirty mark.
 use mathlib.Core.Bool.{not, _&&_, cond}
+use mathlib.Core.List.{[]}
 use Rattle.units.specs.Units.{widened, plus, minus, greater, lesser, clamped}
-use Rattle.model.specs.Records.{setHeating, setCooling, setMinHeat, setMaxHeat, setMinCool, setMaxCool, setMode}
+use Rattle.model.specs.Records.{withAttrs, setHeating, setCooling, setMinHeat, setMaxHeat, setMinCool, setMaxCool, setMode}
+use Rattle.model.specs.Answers.{Outcome}
+use Rattle.model.specs.Orders.{orderOf, askSweep}
 use Rattle.model.specs.Served.{heats, cools, auto, hasHeatLimits, hasCoolLimits}
 use Rattle.model.specs.Units.{deadBand}
 use Rattle.model.specs.Limits.{clampHeatSetpoint, clampCoolSetpoint}
 use Rattle.model.specs.Modes.{isSupportedSystemMode}
 use Rattle.model.specs.declared.Config.{Config}
 use Rattle.model.specs.declared.Attrs.{Attrs}
+use Rattle.model.specs.declared.Moment.the-variants.{Never}
+use Rattle.model.specs.declared.Controller.{Controller}
 
 -- each served minimum to ABS
 unfoldable pub clampMinHeat : Config → Attrs → Attrs
@@ -67,3 +72,14 @@ repairSetpoints cfg a = pushHeating cfg (pushCooling cfg (clampCooling cfg (clam
 
 unfoldable pub repaired : Config → Attrs → Attrs
 repaired cfg a = repairMode cfg (repairSetpoints cfg (repairLimits cfg a))
+
+-- repair of a record: no notices, whatever the relays do, and a plant order
+abbrev pub repairedRecord : Config → Controller → Attrs → Outcome
+repairedRecord cfg r a = record {
+  number = 0;
+  rec = askSweep cfg (withAttrs r (repaired cfg a));
+  order = orderOf (repaired cfg a .settings);
+  notices = [];
+  events = [];
+  deadline = Never;
+}

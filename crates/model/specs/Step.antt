@@ -6,9 +6,9 @@ use Rattle.model.specs.Records.{blank, openedRecord}
 use Rattle.model.specs.Answers.{Outcome, quiet}
 use Rattle.model.specs.Served.{emitsAny}
 use Rattle.model.specs.Validation.{validated, accepted}
-use Rattle.model.specs.Repair.{repaired}
+use Rattle.model.specs.Repair.{repairedRecord}
 use Rattle.model.specs.Writes.{writeOccupiedHeatingSetpoint, writeOccupiedCoolingSetpoint, writeMinHeatSetpointLimit, writeMaxHeatSetpointLimit, writeMinCoolSetpointLimit, writeMaxCoolSetpointLimit, writeSystemMode, setControlSequenceOfOperation, raiseLowerSetpoint, armClock}
-use Rattle.model.specs.Messages.{repairedRecord, outOfBandMessage}
+use Rattle.model.specs.Messages.{outOfBandMessage}
 use Rattle.model.specs.Sweep.{seedEvents, sweep, timer, deadline}
 use Rattle.model.specs.declared.Config.{Config}
 use Rattle.model.specs.declared.Settings.{Settings}

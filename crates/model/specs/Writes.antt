@@ -2,37 +2,27 @@
 use mathlib.Core.Bool.{Bool, not, _&&_, _||_, cond}
 use mathlib.Core.List.{List, [], _∷_, _++_}
 use Prim.Native.Nat.{ℕ}
-use lib.Bits.{bitOr}
 use lib.Dec.{eqb, ltb}
 use Rattle.units.specs.Units.{plus, minus, above, below, within, widened, raised, saturatedDifference}
 use Rattle.units.specs.declared.Hundredths.{Hundredths}
 use Rattle.units.specs.declared.Tenths.{Tenths}
-use Rattle.model.specs.Records.{withAttrs, withPending, withChange, changedTo, setHeating, setCooling, setMinHeat, setMaxHeat, setMinCool, setMaxCool, setMode}
+use Rattle.model.specs.Records.{withAttrs, withChange, changedTo, setHeating, setCooling, setMinHeat, setMaxHeat, setMinCool, setMaxCool, setMode}
 use Rattle.model.specs.Answers.{Outcome, Stage, onlyIf, quiet, andThen, unchanged}
 use Rattle.model.specs.Refusals.{Row, row, unless}
-use Rattle.model.specs.Served.{heats, cools, auto, serves, emitsAny, noticed}
+use Rattle.model.specs.Served.{heats, cools, auto, serves, noticed}
 use Rattle.model.specs.Units.{deadBand}
 use Rattle.model.specs.Limits.{minHeatSetpoint, maxHeatSetpoint, minCoolSetpoint, maxCoolSetpoint, inHeatLimits, inCoolLimits, clampHeatSetpoint, clampCoolSetpoint}
 use Rattle.model.specs.Modes.{isSupportedSystemMode, runningState}
 use Rattle.model.specs.Attribution.{external, recorded, armedClock, claimSetpoints}
+use Rattle.model.specs.Orders.{orderOf, askSweep}
 use Rattle.model.specs.Sound.{unsound}
 use Rattle.model.specs.declared.Config.{Config}
 use Rattle.model.specs.declared.Settings.{Settings}
 use Rattle.model.specs.declared.Attrs.{Attrs}
 use Rattle.model.specs.declared.SetpointChangeState.{SetpointChangeState}
 use Rattle.model.specs.declared.Moment.the-variants.{Never}
-use Rattle.model.specs.declared.Order.{Order}
-use Rattle.model.specs.declared.Order.the-variants.{Apply}
 use Rattle.model.specs.declared.Controller.{Controller}
 use Rattle.model.specs.declared.Readings.{Readings}
-
--- the plant order
-abbrev pub orderOf : Settings → Order
-orderOf s = Apply (s .mode) (s .heating) (s .cooling)
-
--- a plant order sets bit 9 if any event is served
-unfoldable pub askSweep : Config → Controller → Controller
-askSweep cfg r = withPending r (cond (emitsAny cfg) (bitOr (r .pending) 0x200) (r .pending))
 
 -- 0x29 and 0x1E if the counted relays differ between the readings before and after
 unfoldable pub relayNotices : Config → Readings → List ℕ

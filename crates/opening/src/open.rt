@@ -1,0 +1,23 @@
+// model/specs/Step: opening is validation, then repair of the given settings in a record otherwise blank.
+ghost use mathlib.Core.Path.{_≡_};
+ghost use Rattle.model.specs.Answers.{answer};
+ghost use Rattle.model.specs.Step.{opened};
+use crate::repair;
+use crate::validation;
+use leaves::orders;
+use model::{Answer, Attrs, Config, Controller, Settings};
+
+pub fn open(cfg: Config, settings: Settings) -> Answer
+    ensures { λ r. ⌜ r ≡ answer (opened cfg settings) ⌝ }
+{
+    let n = validation::validate(cfg);
+    let blank = Controller::blank();
+    if n != 0 {
+        return orders::quiet_answer(n, blank);
+    }
+    let a = Attrs {
+        settings: settings,
+        dirty: false,
+    };
+    repair::repair_record(cfg, blank, a)
+}
