@@ -5,7 +5,7 @@ pub mod attribution;
 pub mod band;
 pub mod limits;
 pub mod modes;
+pub mod orders;
 pub mod records;
 pub mod served;
-pub mod orders;
 pub mod temperature;

@@ -3,7 +3,14 @@ ghost use mathlib.Core.Path.{_≡_};
 ghost use Rattle.model.specs.Answers.{answer, quiet};
 ghost use Rattle.model.specs.Orders.{orderOf, askSweep};
 use crate::served;
-use model::{Answer, Config, Controller, Events, Moment, Notices, Order, Settings};
+use model::Answer;
+use model::Config;
+use model::Controller;
+use model::Events;
+use model::Moment;
+use model::Notices;
+use model::Order;
+use model::Settings;
 
 pub fn order_of(s: Settings) -> Order
     ensures { λ r. ⌜ r ≡ orderOf s ⌝ }

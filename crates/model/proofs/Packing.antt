@@ -24,6 +24,10 @@ pub push-all-append : (n : Notices) (l m : List ℕ) → pushAll (pushAll n l) m
 unfolding pushAll
 push-all-append n l m = sym (fold-append push n l m)
 
+pub push-none : (n : Notices) → pushAll n [] ≡ n
+unfolding pushAll
+push-none n = refl
+
 pub push-one : (n : Notices) (c : ℕ) → push n c ≡ pushAll n (c ∷ [])
 unfolding pushAll
 push-one n c = refl
@@ -35,6 +39,10 @@ push-packed l c = push-one (pushAll noNotices l) c ∙ push-all-append noNotices
 pub emit-all-append : (es : Events) (l m : List Event) → emitAll (emitAll es l) m ≡ emitAll es (l ++ m)
 unfolding emitAll
 emit-all-append es l m = sym (fold-append emit es l m)
+
+pub emit-none : (es : Events) → emitAll es [] ≡ es
+unfolding emitAll
+emit-none es = refl
 
 pub emit-one : (es : Events) (e : Event) → emit es e ≡ emitAll es (e ∷ [])
 unfolding emitAll

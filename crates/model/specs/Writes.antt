@@ -118,10 +118,11 @@ abbrev pub limitStored : Config → Controller → Attrs → ℕ → Stage
 limitStored cfg r a code = record { rec = withAttrs r a; notices = noticed cfg code }
 
 -- a minimum may not exceed its maximum or leave ABS; AUTO keeps it at most cooling minimum − dead band
+abbrev pub barsMinHeat : Config → Settings → Hundredths → Bool
+barsMinHeat cfg s v = not (within v (cfg .absminheat) (s .maxheat)) || (auto cfg && above v (minus (minCoolSetpoint cfg s) (deadBand cfg)))
+
 abbrev pub minHeatRows : Config → Controller → Hundredths → List Row
-minHeatRows cfg r v =
-    let s = r .attrs .settings in
-    unsound cfg r ∷ unserved cfg 0x15 ∷ row 22 (not (within v (cfg .absminheat) (s .maxheat)) || (auto cfg && above v (minus (minCoolSetpoint cfg s) (deadBand cfg)))) ∷ []
+minHeatRows cfg r v = unsound cfg r ∷ unserved cfg 0x15 ∷ row 22 (barsMinHeat cfg (r .attrs .settings) v) ∷ []
 
 unfoldable pub writeMinHeatSetpointLimit : Config → Controller → Readings → Hundredths → Outcome
 writeMinHeatSetpointLimit cfg r d v =
@@ -129,30 +130,33 @@ writeMinHeatSetpointLimit cfg r d v =
     (applied cfg d (andThen (limitStored cfg r (setMinHeat (r .attrs) v) 0x15) (pullHeating cfg d)))
 
 -- nor a maximum the reverse
+abbrev pub barsMaxHeat : Config → Settings → Hundredths → Bool
+barsMaxHeat cfg s v = not (within v (s .minheat) (cfg .absmaxheat)) || (auto cfg && above v (minus (maxCoolSetpoint cfg s) (deadBand cfg)))
+
 abbrev pub maxHeatRows : Config → Controller → Hundredths → List Row
-maxHeatRows cfg r v =
-    let s = r .attrs .settings in
-    unsound cfg r ∷ unserved cfg 0x16 ∷ row 22 (not (within v (s .minheat) (cfg .absmaxheat)) || (auto cfg && above v (minus (maxCoolSetpoint cfg s) (deadBand cfg)))) ∷ []
+maxHeatRows cfg r v = unsound cfg r ∷ unserved cfg 0x16 ∷ row 22 (barsMaxHeat cfg (r .attrs .settings) v) ∷ []
 
 unfoldable pub writeMaxHeatSetpointLimit : Config → Controller → Readings → Hundredths → Outcome
 writeMaxHeatSetpointLimit cfg r d v =
     unless (maxHeatRows cfg r v) r
     (applied cfg d (andThen (limitStored cfg r (setMaxHeat (r .attrs) v) 0x16) (pullHeating cfg d)))
 
+abbrev pub barsMinCool : Config → Settings → Hundredths → Bool
+barsMinCool cfg s v = not (within v (cfg .absmincool) (s .maxcool)) || (auto cfg && below v (plus (minHeatSetpoint cfg s) (deadBand cfg)))
+
 abbrev pub minCoolRows : Config → Controller → Hundredths → List Row
-minCoolRows cfg r v =
-    let s = r .attrs .settings in
-    unsound cfg r ∷ unserved cfg 0x17 ∷ row 22 (not (within v (cfg .absmincool) (s .maxcool)) || (auto cfg && below v (plus (minHeatSetpoint cfg s) (deadBand cfg)))) ∷ []
+minCoolRows cfg r v = unsound cfg r ∷ unserved cfg 0x17 ∷ row 22 (barsMinCool cfg (r .attrs .settings) v) ∷ []
 
 unfoldable pub writeMinCoolSetpointLimit : Config → Controller → Readings → Hundredths → Outcome
 writeMinCoolSetpointLimit cfg r d v =
     unless (minCoolRows cfg r v) r
     (applied cfg d (andThen (limitStored cfg r (setMinCool (r .attrs) v) 0x17) (pullCooling cfg d)))
 
+abbrev pub barsMaxCool : Config → Settings → Hundredths → Bool
+barsMaxCool cfg s v = not (within v (s .mincool) (cfg .absmaxcool)) || (auto cfg && below v (plus (maxHeatSetpoint cfg s) (deadBand cfg)))
+
 abbrev pub maxCoolRows : Config → Controller → Hundredths → List Row
-maxCoolRows cfg r v =
-    let s = r .attrs .settings in
-    unsound cfg r ∷ unserved cfg 0x18 ∷ row 22 (not (within v (s .mincool) (cfg .absmaxcool)) || (auto cfg && below v (plus (maxHeatSetpoint cfg s) (deadBand cfg)))) ∷ []
+maxCoolRows cfg r v = unsound cfg r ∷ unserved cfg 0x18 ∷ row 22 (barsMaxCool cfg (r .attrs .settings) v) ∷ []
 
 unfoldable pub writeMaxCoolSetpointLimit : Config → Controller → Readings → Hundredths → Outcome
 writeMaxCoolSetpointLimit cfg r d v =

@@ -5,7 +5,11 @@ ghost use Rattle.model.specs.Step.{opened};
 use crate::repair;
 use crate::validation;
 use leaves::orders;
-use model::{Answer, Attrs, Config, Controller, Settings};
+use model::Answer;
+use model::Attrs;
+use model::Config;
+use model::Controller;
+use model::Settings;
 
 pub fn open(cfg: Config, settings: Settings) -> Answer
     ensures { λ r. ⌜ r ≡ answer (opened cfg settings) ⌝ }

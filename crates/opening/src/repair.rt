@@ -10,13 +10,23 @@ use leaves::modes;
 use leaves::orders;
 use leaves::records;
 use leaves::served;
-use model::{Answer, Attrs, Config, Controller, Events, Moment, Notices};
+use model::Answer;
+use model::Attrs;
+use model::Config;
+use model::Controller;
+use model::Events;
+use model::Moment;
+use model::Notices;
 
 fn clamp_min_heat(cfg: Config, a: Attrs) -> Attrs
     ensures { λ r. ⌜ r ≡ spec.clampMinHeat cfg a ⌝ }
 {
     if served::has_heat_limits(cfg) {
-        let v = units::clamp(units::widen(a.settings.minheat), cfg.absminheat, cfg.absmaxheat);
+        let v = units::clamp(
+            units::widen(a.settings.minheat),
+            cfg.absminheat,
+            cfg.absmaxheat,
+        );
         return records::set_min_heat(a, v);
     }
     a
@@ -26,7 +36,11 @@ fn clamp_max_heat(cfg: Config, a: Attrs) -> Attrs
     ensures { λ r. ⌜ r ≡ spec.clampMaxHeat cfg a ⌝ }
 {
     if served::has_heat_limits(cfg) {
-        let v = units::clamp(units::widen(a.settings.maxheat), a.settings.minheat, cfg.absmaxheat);
+        let v = units::clamp(
+            units::widen(a.settings.maxheat),
+            a.settings.minheat,
+            cfg.absmaxheat,
+        );
         return records::set_max_heat(a, v);
     }
     a
@@ -36,7 +50,11 @@ fn clamp_min_cool(cfg: Config, a: Attrs) -> Attrs
     ensures { λ r. ⌜ r ≡ spec.clampMinCool cfg a ⌝ }
 {
     if served::has_cool_limits(cfg) {
-        let v = units::clamp(units::widen(a.settings.mincool), cfg.absmincool, cfg.absmaxcool);
+        let v = units::clamp(
+            units::widen(a.settings.mincool),
+            cfg.absmincool,
+            cfg.absmaxcool,
+        );
         return records::set_min_cool(a, v);
     }
     a
@@ -46,7 +64,11 @@ fn clamp_max_cool(cfg: Config, a: Attrs) -> Attrs
     ensures { λ r. ⌜ r ≡ spec.clampMaxCool cfg a ⌝ }
 {
     if served::has_cool_limits(cfg) {
-        let v = units::clamp(units::widen(a.settings.maxcool), a.settings.mincool, cfg.absmaxcool);
+        let v = units::clamp(
+            units::widen(a.settings.maxcool),
+            a.settings.mincool,
+            cfg.absmaxcool,
+        );
         return records::set_max_cool(a, v);
     }
     a

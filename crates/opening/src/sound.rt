@@ -6,7 +6,10 @@ use leaves::band;
 use leaves::limits;
 use leaves::modes;
 use leaves::served;
-use model::{Config, Controller, Moment, Settings};
+use model::Config;
+use model::Controller;
+use model::Moment;
+use model::Settings;
 
 fn sound_heat_limits(cfg: Config, s: Settings) -> bool
     ensures { λ r. ⌜ r ≡ spec.soundHeatLimits cfg s ⌝ }
