@@ -18,7 +18,7 @@ use Rattle.units.specs.Units.{widened}
 use Rattle.model.specs.Attribution.{external, armedClock, servedSetpoints}
 use Rattle.model.specs.Writes.{applied, thenNoticed, coolingBeside, heatingBeside, relayNotices, sourceNotices, storeHeatingSetpoint, storeCoolingSetpoint, pullHeating, pullCooling, limitStored, raiseHeating, raiseCooling, raiseBoth, raiseSides, writeOccupiedHeatingSetpoint, writeOccupiedCoolingSetpoint, writeMinHeatSetpointLimit, writeMaxHeatSetpointLimit, writeMinCoolSetpointLimit, writeMaxCoolSetpointLimit, writeSystemMode, setControlSequenceOfOperation, raiseLowerSetpoint, armClock}
 use Rattle.model.specs.Messages.{messageTaken, modeMessage, heatingMessage, coolingMessage, limitsMessage, outOfBandMessage}
-use Rattle.model.specs.Sweep.{Taken, started, localRecorded, tellsMode, tellsTemperature, tellsCooling, tellsHeating, tellsRelays, tellsRunningMode, sameSnapshot, snapshotOf, NoticeRow, noticeTable, rowNotices, tableNotices, attributedTo, attributeLocalSetpointChange, eventsOf, takenFrom, takeEvents, sweepEvents, swept, sweep, timer, seedEvents, deadline}
+use Rattle.model.specs.Sweep.{Taken, started, localRecorded, tellsMode, tellsTemperature, tellsCooling, tellsHeating, tellsRelays, tellsRunningMode, sameSnapshot, snapshotOf, noticeTable, rowNotices, tableNotices, attributedTo, attributeLocalSetpointChange, eventsOf, takenFrom, takeEvents, sweepEvents, swept, sweep, timer, seedEvents, deadline}
 use Rattle.model.specs.Step.{step}
 use Rattle.model.specs.Laws.{Bounded}
 use Rattle.model.specs.declared.Config.{Config}
@@ -27,6 +27,7 @@ use Rattle.model.specs.declared.Shadow.the-variants.{Unseeded, Seeded}
 use Rattle.model.specs.declared.Attributed.{Attributed}
 use Rattle.model.specs.declared.Attributed.the-variants.{Unclaimed, Claimed}
 use Rattle.model.specs.declared.Event.the-variants.{SystemModeChange, LocalTemperatureChange, SetpointChange, RunningStateChange, RunningModeChange}
+use Rattle.model.specs.declared.NoticeRow.{NoticeRow}
 use Rattle.model.specs.declared.Snapshot.{Snapshot}
 use Rattle.model.specs.declared.Moment.{Moment}
 use Rattle.model.specs.declared.Controller.{Controller}

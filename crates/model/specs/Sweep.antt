@@ -28,15 +28,12 @@ use Rattle.model.specs.declared.Attributed.the-variants.{Unclaimed, Clai
 use Rattle.model.specs.declared.Order.the-variants.{NoOrder}
 use Rattle.model.specs.declared.Event.{Event}
 use Rattle.model.specs.declared.Event.the-variants.{SystemModeChange, LocalTemperatureChange, SetpointChange, RunningStateChange, RunningModeChange}
+use Rattle.model.specs.declared.NoticeRow.{NoticeRow}
 use Rattle.model.specs.declared.Controller.{Controller}
 use Rattle.model.specs.declared.Readings.{Readings}
 
 -- the fixed notice table: bit and attribute code, ten rows
-pub record NoticeRow : Type 0 where
-  pub bit : ℕ
-  pub code : ℕ
-
-abbrev noticeRow : ℕ → ℕ → NoticeRow
+abbrev pub noticeRow : ℕ → ℕ → NoticeRow
 noticeRow b c = record { bit = b; code = c }
 
 abbrev pub noticeTable : List NoticeRow

@@ -165,6 +165,12 @@ pub struct EventSlot {
     pub event: Event,
 }
 
+// A row of the notice table: a pending bit, and the attribute that it reports.
+pub struct NoticeRow {
+    pub bit: u16,
+    pub code: u16,
+}
+
 // The first `len` codes are the notices.
 pub struct Notices {
     pub codes: [u16; 13],
