@@ -1,3 +1,3 @@
 // The calls on a record: writes and raise/lower, messages, sweep and timer. Each equals its definition in model/specs.
-pub mod writes;
 pub mod messages;
+pub mod writes;

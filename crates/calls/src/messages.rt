@@ -7,18 +7,29 @@ use leaves::limits;
 use leaves::modes;
 use leaves::orders;
 use leaves::records;
-use model::{Answer, Attrs, Config, Controller, OutOfBandMessage};
+use model::Answer;
+use model::Attrs;
+use model::Config;
+use model::Controller;
+use model::OutOfBandMessage;
 use opening::repair;
 use opening::sound;
 use units::Hundredths;
 
 const PENDING_LOCAL_TEMPERATURE: u16 = 0x001;
+
 const PENDING_OCCUPIED_HEATING_SETPOINT: u16 = 0x002;
+
 const PENDING_OCCUPIED_COOLING_SETPOINT: u16 = 0x004;
+
 const PENDING_SYSTEM_MODE: u16 = 0x008;
+
 const PENDING_LIMITS: u16 = 0x0F0;
+
 const PENDING_RUNNING_STATE: u16 = 0x100;
+
 const PENDING_UPDATE: u16 = 0x101;
+
 const PENDING_EVENT_SWEEP: u16 = 0x200;
 
 // Every accepted message asks for a sweep too.
@@ -71,7 +82,14 @@ fn mode_message(cfg: Config, r: Controller, v: u8) -> Answer
     plain_message(q, PENDING_SYSTEM_MODE)
 }
 
-fn take_limits(cfg: Config, a: Attrs, minh: Hundredths, maxh: Hundredths, minc: Hundredths, maxc: Hundredths) -> Attrs
+fn take_limits(
+    cfg: Config,
+    a: Attrs,
+    minh: Hundredths,
+    maxh: Hundredths,
+    minc: Hundredths,
+    maxc: Hundredths,
+) -> Attrs
     ensures { λ r. ⌜ r ≡ spec.limitsTaken cfg a minh maxh minc maxc ⌝ }
 {
     let w = units::clamp(units::widen(minh), cfg.absminheat, cfg.absmaxheat);
@@ -82,7 +100,14 @@ fn take_limits(cfg: Config, a: Attrs, minh: Hundredths, maxh: Hundredths, minc: 
 }
 
 // The new limits may cut across the setpoints, so the settings are repaired.
-fn limits_message(cfg: Config, r: Controller, minh: Hundredths, maxh: Hundredths, minc: Hundredths, maxc: Hundredths) -> Answer
+fn limits_message(
+    cfg: Config,
+    r: Controller,
+    minh: Hundredths,
+    maxh: Hundredths,
+    minc: Hundredths,
+    maxc: Hundredths,
+) -> Answer
     ensures { λ q. ⌜ q ≡ answer (spec.limitsMessage cfg r minh maxh minc maxc) ⌝ }
 {
     let a = take_limits(cfg, r.attrs, minh, maxh, minc, maxc);
@@ -102,6 +127,13 @@ pub fn out_of_band_message(cfg: Config, r: Controller, m: OutOfBandMessage) -> A
         OutOfBandMessage::OccupiedHeatingSetpoint(v) => heating_message(cfg, r, v),
         OutOfBandMessage::OccupiedCoolingSetpoint(v) => cooling_message(cfg, r, v),
         OutOfBandMessage::SystemMode(v) => mode_message(cfg, r, v),
-        OutOfBandMessage::SetpointLimits(minh, maxh, minc, maxc) => limits_message(cfg, r, minh, maxh, minc, maxc),
+        OutOfBandMessage::SetpointLimits(minh, maxh, minc, maxc) => limits_message(
+            cfg,
+            r,
+            minh,
+            maxh,
+            minc,
+            maxc,
+        ),
     }
 }

@@ -36,7 +36,7 @@ pub struct Stage {
     pub notices: Notices,
 }
 
-fn notify_source_attrs(cfg: Config, n: Notices) -> Notices
+pub fn notify_source_attrs(cfg: Config, n: Notices) -> Notices
     ensures { λ r. ⌜ r ≡ pushAll n (spec.sourceNotices cfg) ⌝ }
 {
     let a = answers::notify(cfg, n, 0x30);
