@@ -1,0 +1,84 @@
+// Document 01, One plant, ten calls: prints call, answer, heating, cooling.
+use model::{Answer, Call, Config, Controller, OutOfBandMessage, Readings, Second, Settings, Temperature};
+use units::{Hundredths, Tenths};
+
+fn plant() -> Config {
+    Config {
+        revision: 11,
+        features: 0x223,
+        attributes: 1972525402030201,
+        events: 59,
+        commands: 1,
+        absminheat: Hundredths(700),
+        absmaxheat: Hundredths(2900),
+        absmincool: Hundredths(1600),
+        absmaxcool: Hundredths(3200),
+        deadband: Tenths(25),
+        sequence: 4,
+        delta: Hundredths(50),
+    }
+}
+
+fn settings() -> Settings {
+    Settings {
+        heating: Hundredths(2000),
+        cooling: Hundredths(2250),
+        minheat: Hundredths(700),
+        maxheat: Hundredths(2900),
+        mincool: Hundredths(1600),
+        maxcool: Hundredths(3200),
+        mode: 1,
+    }
+}
+
+fn no_readings() -> Readings {
+    Readings {
+        relaysbefore: 0,
+        relaysafter: 0,
+        temperature: Temperature::NoReading,
+        hook: Second::NoSecond,
+        node: Second::NoSecond,
+        clock: 0,
+    }
+}
+
+// A setpoint of this plant is never below 0.
+fn whole(v: Hundredths) -> u64 {
+    let x = v.0;
+    if x < 0 {
+        return 0;
+    }
+    x as u64
+}
+
+fn print_line(n: u64, a: Answer) -> Controller {
+    let r = a.rec;
+    let s = r.attrs.settings;
+    io::print_decimal(1, n);
+    io::write_all(1, b" ");
+    io::print_decimal(1, a.number as u64);
+    io::write_all(1, b" ");
+    io::print_decimal(1, whole(s.heating));
+    io::write_all(1, b" ");
+    io::print_decimal(1, whole(s.cooling));
+    io::write_all(1, b"\n");
+    r
+}
+
+fn call(n: u64, r: Controller, k: Call) -> Controller {
+    print_line(n, controller::step(plant(), r, no_readings(), k))
+}
+
+fn main() {
+    let r1 = print_line(1, controller::open(plant(), settings()));
+    let r2 = call(2, r1, Call::WriteOccupiedHeatingSetpoint(Hundredths(2100)));
+    let r3 = call(3, r2, Call::WriteOccupiedHeatingSetpoint(Hundredths(2901)));
+    let r4 = call(4, r3, Call::RaiseLowerSetpoint(2, Tenths(10)));
+    let r5 = call(5, r4, Call::OutOfBand(OutOfBandMessage::OccupiedCoolingSetpoint(Hundredths(2300))));
+    let r6 = call(6, r5, Call::WriteMaxCoolSetpointLimit(Hundredths(3100)));
+    let r7 = call(7, r6, Call::WriteOccupiedCoolingSetpoint(Hundredths(2300)));
+    let limits = OutOfBandMessage::SetpointLimits(Hundredths(2000), Hundredths(1000), Hundredths(1600), Hundredths(1600));
+    let r8 = call(8, r7, Call::OutOfBand(limits));
+    let r9 = call(9, r8, Call::RaiseLowerSetpoint(3, Tenths(10)));
+    call(10, r9, Call::RaiseLowerSetpoint(1, Tenths(-128)));
+}
