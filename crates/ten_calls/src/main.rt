@@ -1,6 +1,15 @@
 // Document 01, One plant, ten calls: prints call, answer, heating, cooling.
-use model::{Answer, Call, Config, Controller, OutOfBandMessage, Readings, Second, Settings, Temperature};
-use units::{Hundredths, Tenths};
+use model::Answer;
+use model::Call;
+use model::Config;
+use model::Controller;
+use model::OutOfBandMessage;
+use model::Readings;
+use model::Second;
+use model::Settings;
+use model::Temperature;
+use units::Hundredths;
+use units::Tenths;
 
 fn plant() -> Config {
     Config {
@@ -74,10 +83,19 @@ fn main() {
     let r2 = call(2, r1, Call::WriteOccupiedHeatingSetpoint(Hundredths(2100)));
     let r3 = call(3, r2, Call::WriteOccupiedHeatingSetpoint(Hundredths(2901)));
     let r4 = call(4, r3, Call::RaiseLowerSetpoint(2, Tenths(10)));
-    let r5 = call(5, r4, Call::OutOfBand(OutOfBandMessage::OccupiedCoolingSetpoint(Hundredths(2300))));
+    let r5 = call(
+        5,
+        r4,
+        Call::OutOfBand(OutOfBandMessage::OccupiedCoolingSetpoint(Hundredths(2300))),
+    );
     let r6 = call(6, r5, Call::WriteMaxCoolSetpointLimit(Hundredths(3100)));
     let r7 = call(7, r6, Call::WriteOccupiedCoolingSetpoint(Hundredths(2300)));
-    let limits = OutOfBandMessage::SetpointLimits(Hundredths(2000), Hundredths(1000), Hundredths(1600), Hundredths(1600));
+    let limits = OutOfBandMessage::SetpointLimits(
+        Hundredths(2000),
+        Hundredths(1000),
+        Hundredths(1600),
+        Hundredths(1600),
+    );
     let r8 = call(8, r7, Call::OutOfBand(limits));
     let r9 = call(9, r8, Call::RaiseLowerSetpoint(3, Tenths(10)));
     call(10, r9, Call::RaiseLowerSetpoint(1, Tenths(-128)));
