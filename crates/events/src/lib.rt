@@ -1,4 +1,103 @@
-// The event sweep: the notice table, start, sweep, timer and deadline. Each equals its definition in model/specs.
-pub mod notices;
-pub mod snapshots;
-pub mod sweep;
+// model/specs/Sweep: start, and taking events.
+ghost use mathlib.Core.Path.{_≡_};
+ghost use Rattle.model.specs.declared.Moment.the-variants.{Never};
+ghost use Rattle.model.specs.declared.Order.the-variants.{NoOrder};
+ghost use Rattle.model.specs.declared.Shadow.the-variants.{Seeded};
+ghost use Rattle.model.specs.Sweep as spec;
+ghost use Rattle.events.specs.Parts.{packedTaken};
+use model::Answer;
+use model::Config;
+use model::Controller;
+use model::EventState;
+use model::Events;
+use model::Moment;
+use model::Notices;
+use model::Order;
+use model::Readings;
+use model::Shadow;
+use model::Snapshot;
+
+// What taking events leaves.
+pub struct Taken {
+    pub rec: Controller,
+    pub events: Events,
+}
+
+// Starting takes the snapshot and claims the setpoints.
+pub fn start(cfg: Config, d: Readings, r: Controller) -> Controller
+    ensures { λ q. ⌜ q ≡ spec.started cfg d r ⌝ }
+{
+    let s = snapshots::snapshot(cfg, d, r);
+    let e = r.events;
+    let last = e.last;
+    let f = EventState {
+        shadow: Shadow::Seeded(s),
+        last: last,
+    };
+    let mut q = r;
+    q.events = f;
+    attribution::claim_setpoints(cfg, q)
+}
+
+fn take_since(cfg: Config, d: Readings, r: Controller, old: Snapshot) -> Taken
+    ensures { λ q. ⌜ q ≡ packedTaken (spec.takenFrom cfg d r (Seeded old)) ⌝ }
+{
+    let new = snapshots::snapshot(cfg, d, r);
+    if snapshots::is_same_snapshot(old, new) {
+        let none = Events::none();
+        return Taken {
+            rec: r,
+            events: none,
+        };
+    }
+    let e = r.events;
+    let last = e.last;
+    let f = reports::commit(cfg, old, new, last, d.clock);
+    let events = reports::events_of(cfg, old, new, last, d.clock);
+    let mut q = r;
+    q.events = f;
+    Taken {
+        rec: q,
+        events: events,
+    }
+}
+
+// No snapshot yet: it starts, no events.
+fn take_from(cfg: Config, d: Readings, r: Controller, s: Shadow) -> Taken
+    ensures { λ q. ⌜ q ≡ packedTaken (spec.takenFrom cfg d r s) ⌝ }
+{
+    match s {
+        Shadow::Unseeded => {
+            let q = start(cfg, d, r);
+            let none = Events::none();
+            Taken {
+                rec: q,
+                events: none,
+            }
+        },
+        Shadow::Seeded(old) => take_since(cfg, d, r, old),
+    }
+}
+
+pub fn take_events(cfg: Config, d: Readings, r: Controller) -> Taken
+    ensures { λ q. ⌜ q ≡ packedTaken (spec.takeEvents cfg d r) ⌝ }
+{
+    let e = r.events;
+    let s = e.shadow;
+    take_from(cfg, d, r, s)
+}
+
+pub fn answer_taken(t: Taken, n: Notices) -> Answer
+    ensures { λ q. ⌜ q ≡ record { number = 0; rec = t .rec; order = NoOrder; notices = n; events = t .events; deadline = Never } ⌝ }
+{
+    let r = t.rec;
+    let e = t.events;
+    Answer {
+        number: 0,
+        rec: r,
+        order: Order::NoOrder,
+        notices: n,
+        events: e,
+        deadline: Moment::Never,
+    }
+}

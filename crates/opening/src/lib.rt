@@ -1,5 +1,26 @@
-// Opening: validation of a configuration, repair of settings, the test of a record. Each equals its definition in model/specs.
-pub mod open;
-pub mod repair;
-pub mod sound;
-pub mod validation;
+// model/specs/Step: opening.
+ghost use mathlib.Core.Path.{_≡_};
+ghost use Rattle.model.specs.Answers.{answer};
+ghost use Rattle.model.specs.Step.{opened};
+use model::Answer;
+use model::Attrs;
+use model::Config;
+use model::Controller;
+use model::Settings;
+use parts::orders;
+
+// Validation, then repair of the given settings in a record otherwise blank.
+pub fn open(cfg: Config, settings: Settings) -> Answer
+    ensures { λ r. ⌜ r ≡ answer (opened cfg settings) ⌝ }
+{
+    let n = validation::validate(cfg);
+    let blank = Controller::blank();
+    if n != 0 {
+        return orders::quiet_answer(n, blank);
+    }
+    let a = Attrs {
+        settings: settings,
+        dirty: false,
+    };
+    repair::repair_record(cfg, blank, a)
+}

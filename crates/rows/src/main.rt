@@ -34,7 +34,7 @@ fn settings() -> Settings {
 }
 
 fn print_answer(n: u64, cfg: Config) {
-    let a = controller::open(cfg, settings());
+    let a = opening::open(cfg, settings());
     io::print_decimal(1, n);
     io::write_all(1, b" ");
     io::print_decimal(1, a.number as u64);

@@ -79,7 +79,7 @@ fn call(n: u64, r: Controller, k: Call) -> Controller {
 }
 
 fn main() {
-    let r1 = print_line(1, controller::open(plant(), settings()));
+    let r1 = print_line(1, opening::open(plant(), settings()));
     let r2 = call(2, r1, Call::WriteOccupiedHeatingSetpoint(Hundredths(2100)));
     let r3 = call(3, r2, Call::WriteOccupiedHeatingSetpoint(Hundredths(2901)));
     let r4 = call(4, r3, Call::RaiseLowerSetpoint(2, Tenths(10)));

@@ -1,5 +1,0 @@
-use Rattle.events.proofs.sweep.answer_notices.Statement.{statement}
-use Rattle.events.proofs.sweep.answer_notices.Tie as tie
-
-pub answer-notices-spec : {M : Type 1} → statement M
-answer-notices-spec = tie.close (tie.spec (λ c κs. tt) (λ c. simp (c .none .ensures)))

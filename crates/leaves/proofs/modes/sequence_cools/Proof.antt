@@ -1,8 +1,0 @@
-use borrow.Author.Needs.{needs}
-use Rattle.model.specs.Modes.{sequenceCools}
-use Rattle.leaves.proofs.modes.sequence_cools.Statement.{statement}
-use Rattle.leaves.proofs.modes.sequence_cools.Tie as tie
-
-pub sequence-cools-spec : {M : Type 1} → statement M
-unfolding sequenceCools
-sequence-cools-spec = tie.close (tie.spec (λ c. search needs))

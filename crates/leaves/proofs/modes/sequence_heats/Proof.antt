@@ -1,8 +1,0 @@
-use borrow.Author.Needs.{needs}
-use Rattle.model.specs.Modes.{sequenceHeats}
-use Rattle.leaves.proofs.modes.sequence_heats.Statement.{statement}
-use Rattle.leaves.proofs.modes.sequence_heats.Tie as tie
-
-pub sequence-heats-spec : {M : Type 1} → statement M
-unfolding sequenceHeats
-sequence-heats-spec = tie.close (tie.spec (λ c. search needs))

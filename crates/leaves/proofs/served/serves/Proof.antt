@@ -1,5 +1,0 @@
-use Rattle.leaves.proofs.served.serves.Statement.{statement}
-use Rattle.leaves.proofs.served.serves.Tie as tie
-
-pub serves-spec : {M : Type 1} → statement M
-serves-spec = tie.close (tie.spec (λ c κs. tt) (λ c. simp (c .listed .ensures)))

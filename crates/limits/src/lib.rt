@@ -1,0 +1,77 @@
+// model/specs/Units and Limits: the dead band, and the limits in force.
+ghost use mathlib.Core.Path.{_≡_};
+ghost use Rattle.model.specs.Units.{deadBand};
+ghost use Rattle.model.specs.Limits.{minHeatSetpoint, maxHeatSetpoint, minCoolSetpoint, maxCoolSetpoint, inHeatLimits, inCoolLimits, clampHeatSetpoint, clampCoolSetpoint};
+use model::Config;
+use model::Settings;
+use units::Hundredths;
+use units::Wide;
+
+pub fn dead_band(cfg: Config) -> Hundredths
+    ensures { λ r. ⌜ r ≡ deadBand cfg ⌝ }
+{
+    if served::auto(cfg) {
+        return units::in_hundredths(cfg.deadband);
+    }
+    Hundredths::ZERO
+}
+
+pub fn min_heat_setpoint(cfg: Config, s: Settings) -> Hundredths
+    ensures { λ r. ⌜ r ≡ minHeatSetpoint cfg s ⌝ }
+{
+    if served::has_heat_limits(cfg) {
+        return s.minheat;
+    }
+    cfg.absminheat
+}
+
+pub fn max_heat_setpoint(cfg: Config, s: Settings) -> Hundredths
+    ensures { λ r. ⌜ r ≡ maxHeatSetpoint cfg s ⌝ }
+{
+    if served::has_heat_limits(cfg) {
+        return s.maxheat;
+    }
+    cfg.absmaxheat
+}
+
+pub fn min_cool_setpoint(cfg: Config, s: Settings) -> Hundredths
+    ensures { λ r. ⌜ r ≡ minCoolSetpoint cfg s ⌝ }
+{
+    if served::has_cool_limits(cfg) {
+        return s.mincool;
+    }
+    cfg.absmincool
+}
+
+pub fn max_cool_setpoint(cfg: Config, s: Settings) -> Hundredths
+    ensures { λ r. ⌜ r ≡ maxCoolSetpoint cfg s ⌝ }
+{
+    if served::has_cool_limits(cfg) {
+        return s.maxcool;
+    }
+    cfg.absmaxcool
+}
+
+pub fn in_heat_limits(cfg: Config, s: Settings, v: Hundredths) -> bool
+    ensures { λ r. ⌜ r ≡ inHeatLimits cfg s v ⌝ }
+{
+    units::is_within(v, min_heat_setpoint(cfg, s), max_heat_setpoint(cfg, s))
+}
+
+pub fn in_cool_limits(cfg: Config, s: Settings, v: Hundredths) -> bool
+    ensures { λ r. ⌜ r ≡ inCoolLimits cfg s v ⌝ }
+{
+    units::is_within(v, min_cool_setpoint(cfg, s), max_cool_setpoint(cfg, s))
+}
+
+pub fn clamp_heat_setpoint(cfg: Config, s: Settings, v: Wide) -> Hundredths
+    ensures { λ r. ⌜ r ≡ clampHeatSetpoint cfg s v ⌝ }
+{
+    units::clamp(v, min_heat_setpoint(cfg, s), max_heat_setpoint(cfg, s))
+}
+
+pub fn clamp_cool_setpoint(cfg: Config, s: Settings, v: Wide) -> Hundredths
+    ensures { λ r. ⌜ r ≡ clampCoolSetpoint cfg s v ⌝ }
+{
+    units::clamp(v, min_cool_setpoint(cfg, s), max_cool_setpoint(cfg, s))
+}

@@ -1,0 +1,18 @@
+use borrow.Author.Needs.{needs}
+use Rattle.model.proofs.Packing.{push-none, push-all-append, emit-none, emit-one, emit-all-append}
+use Rattle.local_changes.proofs.attribute_to.Statement.{statement}
+use Rattle.local_changes.proofs.attribute_to.Tie as tie
+
+pub attribute-to-spec : {M : Type 1} → statement M
+attribute-to-spec =
+    tie.close
+    (tie.spec
+    (λ c. search needs)
+    (λ c. c .match .keys2)
+    (λ c. search needs)
+    (λ c κs. tt)
+    (λ c. c .match2 .keys2)
+    (λ c κs. tt)
+    (λ c. simp (push-none, c .enum-told .given .1))
+    (λ c. simp (push-none, c .claim-first .ensures, c .before .enum-told2 .given .1, c .before .before .before .before .pair .given .1))
+    (λ c. simp (c .attribute-moved .ensures, c .before .before .old .given .1, c .before .before .before .before .before .pair .given .1)))

@@ -1,0 +1,115 @@
+// model/specs/Sweep: a local setpoint change is attributed.
+ghost use mathlib.Core.Path.{_≡_};
+ghost use mathlib.Core.Bool.{_||_};
+ghost use Rattle.model.specs.Records.{changedTo, withChange};
+ghost use Rattle.model.specs.Answers.{unchanged};
+ghost use Rattle.model.specs.Attribution.{withAttributed};
+ghost use Rattle.model.specs.declared.Attributed.the-variants.{Claimed};
+ghost use Rattle.model.specs.Sweep as spec;
+ghost use Rattle.stages.specs.Stages.{staged};
+use model::Attributed;
+use model::Config;
+use model::Controller;
+use model::Notices;
+use model::Readings;
+use stages::Stage;
+use units::Hundredths;
+
+// Heating's difference if it moved, else cooling's.
+fn local_change(h: Hundredths, c: Hundredths, oldh: Hundredths, oldc: Hundredths) -> Hundredths
+    ensures { λ r. ⌜ r ≡ spec.localChange h c oldh oldc ⌝ }
+{
+    if !units::same(oldh, h) {
+        return units::saturating_sub(h, oldh);
+    }
+    units::saturating_sub(c, oldc)
+}
+
+fn record_local(
+    cfg: Config,
+    d: Readings,
+    r: Controller,
+    n: Notices,
+    oldh: Hundredths,
+    oldc: Hundredths,
+    h: Hundredths,
+    c: Hundredths,
+) -> Stage
+    ensures { λ q. ⌜ q ≡ staged n (spec.localRecorded cfg d r oldh oldc h c) ⌝ }
+{
+    let amount = local_change(h, c, oldh, oldc);
+    let change = r.change;
+    let hook = d.hook;
+    let a = attribution::record(change, attribution::MANUAL, amount, hook);
+    let b = attribution::attribute(a, Attributed::Claimed(h, c));
+    let mut q = r;
+    q.change = b;
+    let m = stages::notify_source_attrs(cfg, n);
+    Stage { rec: q, notices: m }
+}
+
+fn has_moved(oldh: Hundredths, oldc: Hundredths, h: Hundredths, c: Hundredths) -> bool
+    ensures { λ r. ⌜ r ≡ changedTo oldh h || changedTo oldc c ⌝ }
+{
+    let heating = units::same(oldh, h);
+    let cooling = units::same(oldc, c);
+    !heating | !cooling
+}
+
+fn attribute_moved(
+    cfg: Config,
+    d: Readings,
+    r: Controller,
+    n: Notices,
+    oldh: Hundredths,
+    oldc: Hundredths,
+    h: Hundredths,
+    c: Hundredths,
+) -> Stage
+    ensures { λ q. ⌜ q ≡ staged n (spec.attributedTo cfg d r (Claimed oldh oldc) (Claimed h c)) ⌝ }
+{
+    if has_moved(oldh, oldc, h, c) {
+        return record_local(cfg, d, r, n, oldh, oldc, h, c);
+    }
+    Stage { rec: r, notices: n }
+}
+
+fn claim_first(r: Controller, n: Notices, pair: Attributed) -> Stage
+    ensures { λ q. ⌜ q ≡ staged n (unchanged (withChange r (withAttributed (r .change) pair))) ⌝ }
+{
+    let change = r.change;
+    let c = attribution::attribute(change, pair);
+    let mut q = r;
+    q.change = c;
+    Stage { rec: q, notices: n }
+}
+
+// With no attributed pair yet it only claims.
+fn attribute_to(
+    cfg: Config,
+    d: Readings,
+    r: Controller,
+    n: Notices,
+    old: Attributed,
+    pair: Attributed,
+) -> Stage
+    ensures { λ q. ⌜ q ≡ staged n (spec.attributedTo cfg d r old pair) ⌝ }
+{
+    match pair {
+        Attributed::Unclaimed => Stage { rec: r, notices: n },
+        Attributed::Claimed(h, c) => match old {
+            Attributed::Unclaimed => claim_first(r, n, Attributed::Claimed(h, c)),
+            Attributed::Claimed(oldh, oldc) => attribute_moved(cfg, d, r, n, oldh, oldc, h, c),
+        },
+    }
+}
+
+// A change that no write claimed is the device's own: Manual.
+pub fn attribute_local_setpoint_change(cfg: Config, d: Readings, r: Controller, n: Notices) -> Stage
+    ensures { λ q. ⌜ q ≡ staged n (spec.attributeLocalSetpointChange cfg d r) ⌝ }
+{
+    let change = r.change;
+    let old = change.attributed;
+    let pair = attribution::served_setpoints(cfg, r.attrs.settings);
+    attribute_to(cfg, d, r, n, old, pair)
+}

@@ -1,0 +1,51 @@
+// model/specs/Writes: the mode write, the control sequence; and arming.
+ghost use mathlib.Core.Path.{_≡_};
+ghost use Rattle.model.specs.Answers.{answer};
+ghost use Rattle.model.specs.Writes as spec;
+use model::Answer;
+use model::Config;
+use model::Controller;
+use model::Notices;
+use model::Readings;
+use parts::answers;
+use parts::orders;
+use parts::records;
+use stages::Stage;
+
+// SystemMode is noticed last, and always.
+pub fn write_system_mode(cfg: Config, r: Controller, d: Readings, v: u8) -> Answer
+    ensures { λ q. ⌜ q ≡ answer (spec.writeSystemMode cfg r d v) ⌝ }
+{
+    if !sound::is_sound(cfg, r) {
+        return orders::quiet_answer(28, r);
+    }
+    if !modes::is_supported_system_mode(cfg, v) {
+        return orders::quiet_answer(22, r);
+    }
+    let n = Notices::none();
+    let q = records::with_attrs(r, records::set_mode(r.attrs, v));
+    let s = Stage { rec: q, notices: n };
+    let mut o = stages::apply(cfg, d, s);
+    let m = answers::notify(cfg, o.notices, 0x1C);
+    o.notices = m;
+    o
+}
+
+// Accepts every value and changes nothing.
+pub fn set_control_sequence_of_operation(cfg: Config, r: Controller, v: u8) -> Answer
+    ensures { λ q. ⌜ q ≡ answer (spec.setControlSequenceOfOperation cfg r v) ⌝ }
+{
+    if !sound::is_sound(cfg, r) {
+        return orders::quiet_answer(28, r);
+    }
+    orders::quiet_answer(0, r)
+}
+
+pub fn arm_clock(cfg: Config, r: Controller, d: Readings) -> Answer
+    ensures { λ q. ⌜ q ≡ answer (spec.armClock cfg r d) ⌝ }
+{
+    if !sound::is_sound(cfg, r) {
+        return orders::quiet_answer(28, r);
+    }
+    orders::quiet_answer(0, attribution::arm_clock(cfg, d, r))
+}

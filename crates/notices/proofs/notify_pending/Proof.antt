@@ -1,0 +1,60 @@
+-- The invariant: what has been pushed, with the notices of the rows that are left, is the whole table's.
+use mathlib.Core.Path.{_≡_, sym, _∙_}
+use mathlib.Core.List.{List}
+use Prim.Native.Nat.{ℕ, _+_, _-_, _≤_, _<_}
+use native.Mathlib.Numerals.{add-one}
+use native.Mathlib.Omega.{arith}
+use lib.ListN.{length, getD, drop, drop-of-length-le}
+use lib.Seq.{drop-cons}
+use borrow.Author.Needs.{needs}
+use Rattle.model.specs.Answers.{pushAll, packed}
+use Rattle.model.specs.Sweep.{noticeRow, noticeTable, rowNotices, tableNotices}
+use Rattle.model.specs.declared.Config.{Config}
+use Rattle.model.specs.declared.NoticeRow.{NoticeRow}
+use Rattle.model.specs.declared.Notices.{Notices}
+use Rattle.model.proofs.Packing.{push-none, push-all-append}
+use Rattle.notices.proofs.notify_pending.Statement.{statement}
+use Rattle.notices.proofs.notify_pending.Tie as tie
+
+module _ (cfg : Config) (p : ℕ) (ws : List NoticeRow) (n : Notices) (i : ℕ) (all : Notices) where
+  advance : (m : Notices) → i < length ws → m ≡ pushAll n (rowNotices cfg p (getD ws i (noticeRow 0 0))) → pushAll n (tableNotices cfg p (drop i ws)) ≡ all → pushAll m (tableNotices cfg p (drop (i + 1) ws)) ≡ all
+  unfolding tableNotices
+  advance m h e inv = rw (e, push-all-append, add-one) (rw (drop-cons ws i (noticeRow 0 0)) at inv)
+
+  finish : length ws ≤ i → pushAll n (tableNotices cfg p (drop i ws)) ≡ all → n ≡ all
+  unfolding tableNotices
+  finish h inv = sym (push-none n) ∙ (rw (drop-of-length-le ws h) at inv)
+
+abbrev Inv-loop : tie.InvT-loop
+Inv-loop cfg pending n₀ i₀ n i = (i ≤ 10) × (pushAll n (tableNotices cfg pending (drop i noticeTable)) ≡ packed (tableNotices cfg pending noticeTable))
+
+abbrev μ-loop : tie.MeasureT-loop
+μ-loop cfg pending n₀ i₀ n i = 10 - i
+
+loop-holds : tie.Need-loop-holds Inv-loop μ-loop
+unfolding packed
+loop-holds c = (omega arith, simp (c .none .ensures))
+
+loop-again : tie.Need-loop-again Inv-loop μ-loop
+loop-again c =
+    let l = c .before .before .before .loop in
+    (search needs, advance _ _ noticeTable (l .n) (l .i) _ _ (search needs) (c .notify-row .ensures) (l .inv .1))
+
+returns : tie.Need-returns Inv-loop μ-loop
+returns c = let l = c .before .loop in finish _ _ noticeTable (l .n) (l .i) _ (search needs) (l .inv .1)
+
+pub notify-pending-spec : {M : Type 1} → statement M
+notify-pending-spec =
+    tie.close
+    (tie.spec
+    Inv-loop
+    μ-loop
+    (λ c κs. tt)
+    loop-holds
+    (λ c. search needs)
+    (λ c. search needs)
+    (λ c κs. tt)
+    (λ c. search needs)
+    (λ c. search needs)
+    loop-again
+    returns)

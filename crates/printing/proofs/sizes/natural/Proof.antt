@@ -1,0 +1,44 @@
+-- `printing::sizes::natural` meets its contract. Assumes nothing.
+use native.Mathlib.Omega.{arith}
+use mathlib.Core.Path.{_≡_}
+use mathlib.Core.Bool.{true, false}
+use lib.Dec.{T}
+use lib.IntN.{ℤ, pos, negsuc, natAbs}
+use lib.Signed.{ltZ, nonNeg}
+use mir.Syntax.{w32, w64}
+use mir.Val.{SFits, Fits}
+use mir.Facts.{toZ-ofZ}
+use Rattle.integers.specs.Linear.{linear, posPart}
+use Rattle.integers.specs.Widths.{ranges}
+use Rattle.printing.proofs.sizes.natural.Statement.{statement}
+use Rattle.printing.proofs.sizes.natural.Tie as tie
+
+under : (z : ℤ) → ltZ z (pos 0) ≡ true → _≡_ 0 (posPart z)
+under (pos n) t = absurd (omega linear)
+under (negsuc n) t = omega arith
+
+cast : {z : ℤ} → SFits w32 z → ltZ z (pos 0) ≡ false → T (nonNeg z) × Fits w64 (natAbs z)
+cast {z = pos n} f t = (tt, omega arith)
+cast {z = negsuc n} f t = absurd (omega linear)
+
+over : (z : ℤ) → ltZ z (pos 0) ≡ false → natAbs z ≡ posPart z
+over (pos n) t = omega arith
+over (negsuc n) t = absurd (omega linear)
+
+low : (c : tie.Then1) → SFits w32 (c .before .before .args .a .0)
+low c = search ranges
+
+held : (c : tie.Else1) → SFits w32 (c .before .before .args .a .0)
+held c = search ranges
+
+returns : tie.Need-returns
+returns c = under (c .before .before .args .a .0) (rw (toZ-ofZ (low c)) at (c .if1 .taken))
+
+cast-result : tie.Need-cast-result
+cast-result c = rw (toZ-ofZ (held c)) (cast (held c) (rw (toZ-ofZ (held c)) at (c .if1 .left)))
+
+returns-2 : tie.Need-returns-2
+returns-2 c = rw (toZ-ofZ (held c)) (over (c .before .before .args .a .0) (rw (toZ-ofZ (held c)) at (c .if1 .left)))
+
+pub natural-spec : {M : Type 1} → statement M
+natural-spec = tie.close (tie.spec returns cast-result returns-2)

@@ -1,0 +1,16 @@
+use mathlib.Core.Path.{_∙_, sym}
+use Rattle.model.specs.Repair.{clampMaxHeat}
+use Rattle.repair.proofs.clamp_max_heat.Statement.{statement}
+use Rattle.repair.proofs.clamp_max_heat.Tie as tie
+
+pub clamp-max-heat-spec : {M : Type 1} → statement M
+unfolding clampMaxHeat
+clamp-max-heat-spec =
+    tie.close
+    (tie.spec
+    (λ c κs. tt)
+    (λ c κs. tt)
+    (λ c κs. tt)
+    (λ c κs. tt)
+    (λ c. simp (c .set-max-heat .ensures, c .before .clamp .ensures, c .before .before .widen .ensures, sym (c .before .before .before .before .has-heat-limits .ensures) ∙ c .before .before .before .if1 .taken))
+    (λ c. simp (sym (c .before .has-heat-limits .ensures) ∙ c .if1 .left)))

@@ -1,0 +1,19 @@
+use mathlib.Core.Path.{_∙_, sym}
+use Rattle.model.specs.Repair.{pushCooling}
+use Rattle.repair.proofs.push_cooling.Statement.{statement}
+use Rattle.repair.proofs.push_cooling.Tie as tie
+
+pub push-cooling-spec : {M : Type 1} → statement M
+unfolding pushCooling
+push-cooling-spec =
+    tie.close
+    (tie.spec
+    (λ c κs. tt)
+    (λ c κs. tt)
+    (λ c κs. tt)
+    (λ c κs. tt)
+    (λ c κs. tt)
+    (λ c κs. tt)
+    (λ c κs. tt)
+    (λ c. simp (c .set-cooling .ensures, c .before .clamp-cool-setpoint .ensures, c .before .before .max .ensures, c .before .before .before .widen .ensures, c .before .before .before .before .add .ensures, c .before .before .before .before .before .dead-band .ensures, sym (c .before .before .before .before .before .before .before .auto .ensures) ∙ c .before .before .before .before .before .before .if1 .taken))
+    (λ c. simp (sym (c .before .auto .ensures) ∙ c .if1 .left)))

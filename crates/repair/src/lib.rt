@@ -1,0 +1,194 @@
+// model/specs/Repair: each step by itself, on the settings with their dirty mark.
+ghost use mathlib.Core.Path.{_≡_};
+ghost use mathlib.Core.Bool.{_&&_};
+ghost use Rattle.model.specs.Answers.{answer};
+ghost use Rattle.model.specs.Served.{auto, hasHeatLimits};
+ghost use Rattle.model.specs.Repair as spec;
+use model::Answer;
+use model::Attrs;
+use model::Config;
+use model::Controller;
+use model::Events;
+use model::Moment;
+use model::Notices;
+use parts::orders;
+use parts::records;
+
+fn clamp_min_heat(cfg: Config, a: Attrs) -> Attrs
+    ensures { λ r. ⌜ r ≡ spec.clampMinHeat cfg a ⌝ }
+{
+    if served::has_heat_limits(cfg) {
+        let v = units::clamp(
+            units::widen(a.settings.minheat),
+            cfg.absminheat,
+            cfg.absmaxheat,
+        );
+        return records::set_min_heat(a, v);
+    }
+    a
+}
+
+fn clamp_max_heat(cfg: Config, a: Attrs) -> Attrs
+    ensures { λ r. ⌜ r ≡ spec.clampMaxHeat cfg a ⌝ }
+{
+    if served::has_heat_limits(cfg) {
+        let v = units::clamp(
+            units::widen(a.settings.maxheat),
+            a.settings.minheat,
+            cfg.absmaxheat,
+        );
+        return records::set_max_heat(a, v);
+    }
+    a
+}
+
+fn clamp_min_cool(cfg: Config, a: Attrs) -> Attrs
+    ensures { λ r. ⌜ r ≡ spec.clampMinCool cfg a ⌝ }
+{
+    if served::has_cool_limits(cfg) {
+        let v = units::clamp(
+            units::widen(a.settings.mincool),
+            cfg.absmincool,
+            cfg.absmaxcool,
+        );
+        return records::set_min_cool(a, v);
+    }
+    a
+}
+
+fn clamp_max_cool(cfg: Config, a: Attrs) -> Attrs
+    ensures { λ r. ⌜ r ≡ spec.clampMaxCool cfg a ⌝ }
+{
+    if served::has_cool_limits(cfg) {
+        let v = units::clamp(
+            units::widen(a.settings.maxcool),
+            a.settings.mincool,
+            cfg.absmaxcool,
+        );
+        return records::set_max_cool(a, v);
+    }
+    a
+}
+
+fn pulls_heat_limits(cfg: Config) -> bool
+    ensures { λ r. ⌜ r ≡ auto cfg && hasHeatLimits cfg ⌝ }
+{
+    let auto = served::auto(cfg);
+    let limits = served::has_heat_limits(cfg);
+    auto & limits
+}
+
+fn pull_min_heat(cfg: Config, a: Attrs) -> Attrs
+    ensures { λ r. ⌜ r ≡ spec.pullMinHeat cfg a ⌝ }
+{
+    if pulls_heat_limits(cfg) {
+        let w = units::sub(a.settings.mincool, limits::dead_band(cfg));
+        let v = units::clamp(w, cfg.absminheat, a.settings.minheat);
+        return records::set_min_heat(a, v);
+    }
+    a
+}
+
+fn pull_max_heat(cfg: Config, a: Attrs) -> Attrs
+    ensures { λ r. ⌜ r ≡ spec.pullMaxHeat cfg a ⌝ }
+{
+    if pulls_heat_limits(cfg) {
+        let w = units::sub(a.settings.maxcool, limits::dead_band(cfg));
+        let v = units::clamp(w, a.settings.minheat, a.settings.maxheat);
+        return records::set_max_heat(a, v);
+    }
+    a
+}
+
+fn clamp_heating(cfg: Config, a: Attrs) -> Attrs
+    ensures { λ r. ⌜ r ≡ spec.clampHeating cfg a ⌝ }
+{
+    if served::heats(cfg) {
+        let v = limits::clamp_heat_setpoint(cfg, a.settings, units::widen(a.settings.heating));
+        return records::set_heating(a, v);
+    }
+    a
+}
+
+fn clamp_cooling(cfg: Config, a: Attrs) -> Attrs
+    ensures { λ r. ⌜ r ≡ spec.clampCooling cfg a ⌝ }
+{
+    if served::cools(cfg) {
+        let v = limits::clamp_cool_setpoint(cfg, a.settings, units::widen(a.settings.cooling));
+        return records::set_cooling(a, v);
+    }
+    a
+}
+
+fn push_cooling(cfg: Config, a: Attrs) -> Attrs
+    ensures { λ r. ⌜ r ≡ spec.pushCooling cfg a ⌝ }
+{
+    if served::auto(cfg) {
+        let w = units::add(a.settings.heating, limits::dead_band(cfg));
+        let g = units::max(units::widen(a.settings.cooling), w);
+        let v = limits::clamp_cool_setpoint(cfg, a.settings, g);
+        return records::set_cooling(a, v);
+    }
+    a
+}
+
+fn push_heating(cfg: Config, a: Attrs) -> Attrs
+    ensures { λ r. ⌜ r ≡ spec.pushHeating cfg a ⌝ }
+{
+    if served::auto(cfg) {
+        let w = units::sub(a.settings.cooling, limits::dead_band(cfg));
+        let l = units::min(units::widen(a.settings.heating), w);
+        let v = limits::clamp_heat_setpoint(cfg, a.settings, l);
+        return records::set_heating(a, v);
+    }
+    a
+}
+
+fn repair_mode(cfg: Config, a: Attrs) -> Attrs
+    ensures { λ r. ⌜ r ≡ spec.repairMode cfg a ⌝ }
+{
+    if modes::is_supported_system_mode(cfg, a.settings.mode) {
+        return a;
+    }
+    records::set_mode(a, 0)
+}
+
+fn repair_limits(cfg: Config, a: Attrs) -> Attrs
+    ensures { λ r. ⌜ r ≡ spec.repairLimits cfg a ⌝ }
+{
+    let b = clamp_max_heat(cfg, clamp_min_heat(cfg, a));
+    let c = clamp_max_cool(cfg, clamp_min_cool(cfg, b));
+    pull_max_heat(cfg, pull_min_heat(cfg, c))
+}
+
+fn repair_setpoints(cfg: Config, a: Attrs) -> Attrs
+    ensures { λ r. ⌜ r ≡ spec.repairSetpoints cfg a ⌝ }
+{
+    let b = clamp_cooling(cfg, clamp_heating(cfg, a));
+    push_heating(cfg, push_cooling(cfg, b))
+}
+
+pub fn repair(cfg: Config, a: Attrs) -> Attrs
+    ensures { λ r. ⌜ r ≡ spec.repaired cfg a ⌝ }
+{
+    repair_mode(cfg, repair_setpoints(cfg, repair_limits(cfg, a)))
+}
+
+// Repair of a record: no notices, whatever the relays do, and a plant order.
+pub fn repair_record(cfg: Config, r: Controller, a: Attrs) -> Answer
+    ensures { λ q. ⌜ q ≡ answer (spec.repairedRecord cfg r a) ⌝ }
+{
+    let b = repair(cfg, a);
+    let q = orders::ask_sweep(cfg, records::with_attrs(r, b));
+    let o = orders::order_of(b.settings);
+    let n = Notices::none();
+    let e = Events::none();
+    Answer {
+        number: 0,
+        rec: q,
+        order: o,
+        notices: n,
+        events: e,
+        deadline: Moment::Never,
+    }
+}

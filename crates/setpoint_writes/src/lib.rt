@@ -1,0 +1,53 @@
+// model/specs/Writes: the setpoint writes.
+ghost use mathlib.Core.Path.{_≡_};
+ghost use Rattle.model.specs.Answers.{answer};
+ghost use Rattle.model.specs.Writes as spec;
+use model::Answer;
+use model::Config;
+use model::Controller;
+use model::Notices;
+use model::Readings;
+use parts::orders;
+use units::Hundredths;
+
+pub fn write_occupied_heating_setpoint(
+    cfg: Config,
+    r: Controller,
+    d: Readings,
+    v: Hundredths,
+) -> Answer
+    ensures { λ q. ⌜ q ≡ answer (spec.writeOccupiedHeatingSetpoint cfg r d v) ⌝ }
+{
+    if !sound::is_sound(cfg, r) {
+        return orders::quiet_answer(28, r);
+    }
+    if !served::serves(cfg, 0x12) {
+        return orders::quiet_answer(24, r);
+    }
+    if !limits::in_heat_limits(cfg, r.attrs.settings, v) {
+        return orders::quiet_answer(22, r);
+    }
+    let s = stores::store_heating_setpoint(cfg, r, Notices::none(), d, attribution::EXTERNAL, v);
+    stages::apply(cfg, d, s)
+}
+
+pub fn write_occupied_cooling_setpoint(
+    cfg: Config,
+    r: Controller,
+    d: Readings,
+    v: Hundredths,
+) -> Answer
+    ensures { λ q. ⌜ q ≡ answer (spec.writeOccupiedCoolingSetpoint cfg r d v) ⌝ }
+{
+    if !sound::is_sound(cfg, r) {
+        return orders::quiet_answer(28, r);
+    }
+    if !served::serves(cfg, 0x11) {
+        return orders::quiet_answer(24, r);
+    }
+    if !limits::in_cool_limits(cfg, r.attrs.settings, v) {
+        return orders::quiet_answer(22, r);
+    }
+    let s = stores::store_cooling_setpoint(cfg, r, Notices::none(), d, attribution::EXTERNAL, v);
+    stages::apply(cfg, d, s)
+}

@@ -1,0 +1,20 @@
+use Rattle.model.proofs.Packing.{push-none, push-all-append}
+use Rattle.model.specs.Writes.{storeHeatingSetpoint}
+use Rattle.stores.proofs.store_heating_setpoint.Statement.{statement}
+use Rattle.stores.proofs.store_heating_setpoint.Tie as tie
+
+pub store-heating-setpoint-spec : {M : Type 1} → statement M
+unfolding storeHeatingSetpoint
+store-heating-setpoint-spec =
+    tie.close
+    (tie.spec
+    (λ c κs. tt)
+    (λ c κs. tt)
+    (λ c κs. tt)
+    (λ c κs. tt)
+    (λ c κs. tt)
+    (λ c κs. tt)
+    (λ c κs. tt)
+    (λ c κs. tt)
+    (λ c κs. tt)
+    (λ c. simp (push-all-append, c .notify-if .ensures, c .before .notify-change .ensures, c .before .before .claim-setpoints .ensures, c .before .before .before .record-if .ensures, c .before .before .before .before .set-cooling .ensures, c .before .before .before .before .before .set-heating .ensures, c .before .before .before .before .before .before .before .same2 .ensures, c .before .before .before .before .before .before .before .before .cooling-beside .ensures, c .before .before .before .before .before .before .before .before .before .same .ensures)))

@@ -1,0 +1,71 @@
+// model/specs/Temperature: significance, the 60-second interval, LTNE.
+ghost use mathlib.Core.Path.{_≡_};
+ghost use Prim.Native.Nat.{_-_};
+ghost use Rattle.model.specs.Temperature.{significant, intervalOver, eventDue, reportedTemperature};
+use model::Config;
+use model::Controller;
+use model::Moment;
+use model::Temperature;
+use units::Hundredths;
+
+pub fn local_temperature_change_significant(
+    previous: Temperature,
+    current: Temperature,
+    delta: Hundredths,
+) -> bool
+    ensures { λ r. ⌜ r ≡ significant previous current delta ⌝ }
+{
+    match previous {
+        Temperature::NoReading => match current {
+            Temperature::NoReading => false,
+            Temperature::Reading(_) => true,
+        },
+        Temperature::Reading(a) => match current {
+            Temperature::NoReading => true,
+            Temperature::Reading(b) => units::are_apart(a, b, delta),
+        },
+    }
+}
+
+// A clock gone back counts as 0 ms.
+fn elapsed(last: u64, now: u64) -> u64
+    ensures { λ r. ⌜ r ≡ now - last ⌝ }
+{
+    if last < now {
+        return now - last;
+    }
+    0
+}
+
+fn is_interval_over(last: Moment, now: u64) -> bool
+    ensures { λ r. ⌜ r ≡ intervalOver last now ⌝ }
+{
+    match last {
+        Moment::Never => true,
+        Moment::Ms(t) => Controller::EVENT_INTERVAL <= elapsed(t, now),
+    }
+}
+
+pub fn local_temperature_event_due(
+    previous: Temperature,
+    current: Temperature,
+    delta: Hundredths,
+    last: Moment,
+    now: u64,
+) -> bool
+    ensures { λ r. ⌜ r ≡ eventDue previous current delta last now ⌝ }
+{
+    if local_temperature_change_significant(previous, current, delta) {
+        return is_interval_over(last, now);
+    }
+    false
+}
+
+pub fn reported_local_temperature(cfg: Config, t: Temperature) -> Temperature
+    ensures { λ r. ⌜ r ≡ reportedTemperature cfg t ⌝ }
+{
+    if served::hides_temperature(cfg) {
+        return Temperature::NoReading;
+    }
+    t
+}

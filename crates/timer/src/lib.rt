@@ -1,0 +1,32 @@
+// model/specs/Sweep: start and timer as calls.
+ghost use mathlib.Core.Path.{_≡_};
+ghost use Rattle.model.specs.Answers.{answer};
+ghost use Rattle.model.specs.Sweep as spec;
+use model::Answer;
+use model::Config;
+use model::Controller;
+use model::Notices;
+use model::Readings;
+use parts::orders;
+
+// Events only; it leaves pending alone.
+pub fn timer(cfg: Config, r: Controller, d: Readings) -> Answer
+    ensures { λ q. ⌜ q ≡ answer (spec.timer cfg r d) ⌝ }
+{
+    if !sound::is_sound(cfg, r) {
+        return orders::quiet_answer(28, r);
+    }
+    if Controller::LAST_CLOCK < d.clock {
+        return orders::quiet_answer(27, r);
+    }
+    events::answer_taken(events::take_events(cfg, d, r), Notices::none())
+}
+
+pub fn seed_events(cfg: Config, r: Controller, d: Readings) -> Answer
+    ensures { λ q. ⌜ q ≡ answer (spec.seedEvents cfg r d) ⌝ }
+{
+    if !sound::is_sound(cfg, r) {
+        return orders::quiet_answer(28, r);
+    }
+    orders::quiet_answer(0, events::start(cfg, d, r))
+}
