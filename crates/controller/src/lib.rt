@@ -69,3 +69,10 @@ pub fn step(cfg: Config, rec: Controller, d: Readings, call: Call) -> Answer
         Call::Deadline => deadline::deferred_local_temperature_deadline(cfg, rec, d),
     }
 }
+
+// The record that an answer holds.
+pub fn rec_of(a: Answer) -> Controller
+    ensures { λ q. ⌜ q ≡ a .rec ⌝ }
+{
+    a.rec
+}

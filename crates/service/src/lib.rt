@@ -1,0 +1,17 @@
+// The service entry: it is lent the controller record, and leaves in it the record of the answer.
+ghost use mathlib.Core.Path.{_≡_};
+ghost use Rattle.model.specs.Answers.{answer};
+ghost use Rattle.model.specs.Step.{step};
+use model::Answer;
+use model::Call;
+use model::Config;
+use model::Controller;
+use model::Readings;
+
+pub fn serve(c: &mut Controller, cfg: Config, d: Readings, k: Call) -> Answer
+    ensures { λ q. ⌜ (q ≡ answer (step cfg (now (c .entry)) d k)) × (now (c .exit) ≡ answer (step cfg (now (c .entry)) d k) .rec) ⌝ }
+{
+    let a = controller::step(cfg, *c, d, k);
+    *c = controller::rec_of(a);
+    a
+}
