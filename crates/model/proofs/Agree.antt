@@ -36,7 +36,8 @@ use Rattle.model.specs.declared.Call.the-variants.{WriteOccupiedHeatingS
 use Rattle.model.specs.Claims.{Entry, entry, after, number, run, numbers, AllAccepted, EqualLimits, EqualSetpoints, Agree, limitsEntry, Adjacent, LimitsThenWrites, ModeWritten, Agreement, LimitsAgree, ModesAgree, SetpointsAgree}
 use Rattle.model.proofs.Logic.{by-cond, by-unless, clash, neither, not-both, or-left, or-right}
 use Rattle.model.proofs.Valid.{Valid, valid}
-use Rattle.model.proofs.Kept.{Good, step-good, opened-good, is-good}
+use Rattle.model.proofs.Good.{Good, is-good}
+use Rattle.model.proofs.Kept.{step-good, opened-good}
 use Rattle.model.proofs.Band.{run-good, settings-armed, events-attrs, swept-attrs}
 
 -- equal stored limits

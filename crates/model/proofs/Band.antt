@@ -45,7 +45,8 @@ use Rattle.model.proofs.Logic.{clash, not-both, by-cond, by-refusal}
 use Rattle.model.proofs.Valid.{Valid, valid}
 use Rattle.model.proofs.Chain.{InForce, LimitTests, Placed, inside, apart, in-force, heat-clamped, cool-clamped}
 use Rattle.model.proofs.Repair.{limits-repaired, setpoints-clamped, cooling-pushed}
-use Rattle.model.proofs.Kept.{Good, step-good, opened-good, raised-heat, raised-cool, heat-raised, armed-good, min-heat-tests, max-heat-tests, min-cool-tests, max-cool-tests, far, heating-inside, cooling-inside}
+use Rattle.model.proofs.Good.{Good, raised-heat, raised-cool, heat-raised, armed-good, heating-inside, cooling-inside}
+use Rattle.model.proofs.Kept.{step-good, opened-good, min-heat-tests, max-heat-tests, min-cool-tests, max-cool-tests, far}
 
 module _ (cfg : Config) (s : Settings) (k : InForce cfg s) where
   -- a heating value within its limits, and cooling beside it

@@ -6,9 +6,11 @@ pub mod Refused
 pub mod Valid
 pub mod Chain
 pub mod Repair
+pub mod Good
 pub mod Kept
 pub mod Band
 pub mod Agree
 pub mod Mode
+pub mod Pairs
 pub mod Agreement
 pub mod Examples

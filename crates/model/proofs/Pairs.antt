@@ -1,0 +1,207 @@
+-- One call on two controllers with equal limits in force.
+use mathlib.Core.Path.{_≡_, refl, sym, _∙_, subst}
+use mathlib.Core.Bool.{true, false, not}
+use mathlib.Core.List.{List, [], _∷_}
+use Prim.Native.Nat.{ℕ}
+use borrow.Author.Tests.{not-false}
+use Rattle.units.specs.Units.{equal}
+use Rattle.units.specs.declared.Hundredths.{Hundredths}
+use Rattle.units.specs.declared.Tenths.{Tenths}
+use Rattle.model.specs.Records.{withAttrs, setMinHeat, setMaxHeat, setMinCool, setMaxCool}
+use Rattle.model.specs.Answers.{Outcome, quiet, andThen}
+use Rattle.model.specs.Refusals.{Row, row, unless, Clear}
+use Rattle.model.specs.Served.{heats, cools, serves}
+use Rattle.model.specs.Limits.{inHeatLimits, inCoolLimits}
+use Rattle.model.specs.Attribution.{external, armedClock, claimSetpoints}
+use Rattle.model.specs.Validation.{accepted}
+use Rattle.model.specs.Repair.{repaired}
+use Rattle.model.specs.Sound.{sound, unsound}
+use Rattle.model.specs.Orders.{askSweep}
+use Rattle.model.specs.Writes.{minHeatRows, maxHeatRows, minCoolRows, maxCoolRows, unserved, applied, namesAbsentSide, pullHeating, pullCooling, limitStored, raiseSides, writeOccupiedHeatingSetpoint, writeOccupiedCoolingSetpoint, writeMinHeatSetpointLimit, writeMaxHeatSetpointLimit, writeMinCoolSetpointLimit, writeMaxCoolSetpointLimit, writeSystemMode, setControlSequenceOfOperation, raiseLowerSetpoint, armClock}
+use Rattle.model.specs.Messages.{messageTaken, heatingMessage, coolingMessage, modeMessage, limitsMessage, limitsTaken, outOfBandMessage}
+use Rattle.model.specs.Sweep.{sweep, timer, started, seedEvents, deadline}
+use Rattle.model.specs.Step.{step}
+use Rattle.model.specs.declared.Config.{Config}
+use Rattle.model.specs.declared.Attrs.{Attrs}
+use Rattle.model.specs.declared.Controller.{Controller}
+use Rattle.model.specs.declared.Readings.{Readings}
+use Rattle.model.specs.declared.OutOfBandMessage.{OutOfBandMessage}
+use Rattle.model.specs.declared.OutOfBandMessage.the-variants.{LocalTemperature, RunningState, Update, OccupiedHeatingSetpoint, OccupiedCoolingSetpoint, SystemMode, SetpointLimits}
+use Rattle.model.specs.declared.Call.{Call}
+use Rattle.model.specs.declared.Call.the-variants.{WriteOccupiedHeatingSetpoint, WriteOccupiedCoolingSetpoint, WriteMinHeatSetpointLimit, WriteMaxHeatSetpointLimit, WriteMinCoolSetpointLimit, WriteMaxCoolSetpointLimit, WriteSystemMode, SetControlSequenceOfOperation, RaiseLowerSetpoint, ArmClock, OutOfBand, SeedEvents, Sweep, Timer, Deadline}
+use Rattle.model.specs.Claims.{after, number, numbers, EqualLimits}
+use Rattle.model.proofs.Logic.{or-left, or-right}
+use Rattle.model.proofs.Valid.{Valid, valid}
+use Rattle.model.proofs.Good.{Good, is-good}
+use Rattle.model.proofs.Kept.{heat-served, cool-served}
+use Rattle.model.proofs.Agree.{SameLimits, SamePoints, both-unless, chained, limits-in-force, same-in-heat, same-in-cool, same-clamp-heat, same-clamp-cool, heating-limits, cooling-limits, pull-heat-limits, pull-cool-limits, raise-limits, Alike, same-repaired, heating-points, cooling-points, pull-heat-points, pull-cool-points, raise-points}
+use Rattle.model.proofs.Refused.{swept-done}
+use Rattle.model.proofs.Band.{settings-armed, events-attrs, swept-attrs}
+
+-- after a limits message limits are equal, whatever they were before; and setpoints where they were
+pub limits-taken : (cfg : Config) (v : Valid cfg) (Q : Type 0) (a b : Attrs) → (Q → SamePoints cfg (a .settings) (b .settings)) → (x y z w : Hundredths) → Alike cfg v Q (repaired cfg (limitsTaken cfg a x y z w)) (repaired cfg (limitsTaken cfg b x y z w))
+unfolding limitsTaken
+limits-taken cfg v Q a b f x y z w =
+    same-repaired cfg v Q _ _ (record { limits = record { minheat = refl; maxheat = refl; mincool = refl; maxcool = refl }; points = λ p. record { heating = f p .heating; cooling = f p .cooling } })
+
+-- one call on two controllers with equal limits: equal numbers, equal limits again, and equal setpoints where they were equal
+pub record Stepped (cfg : Config) (q r : Controller) (o p : Outcome) : Type 0 where
+  pub number : o .number ≡ p .number
+  pub limits : SameLimits (o .rec .attrs .settings) (p .rec .attrs .settings)
+  pub points : SamePoints cfg (q .attrs .settings) (r .attrs .settings) → SamePoints cfg (o .rec .attrs .settings) (p .rec .attrs .settings)
+
+module _ (cfg : Config) (ok : accepted cfg ≡ true) (d : Readings) (q r : Controller) (gq : Good cfg q) (gr : Good cfg r) (l : SameLimits (q .attrs .settings) (r .attrs .settings)) where
+  pub v : Valid cfg
+  v = valid cfg ok
+
+  pub sq : sound cfg q ≡ true
+  sq = is-good cfg q ok gq
+
+  pub sr : sound cfg r ≡ true
+  sr = is-good cfg r ok gr
+
+  abbrev Both : Outcome → Outcome → Type 0
+  Both o p = Stepped cfg q r o p
+
+  pub refused : (n : ℕ) → Both (quiet n q) (quiet n r)
+  refused n = record { number = refl; limits = l; points = λ p. p }
+
+  pub guarded : (ws vs : List Row) (o p : Outcome) → ws ≡ vs → (Clear ws → Both o p) → Both (unless ws q o) (unless vs r p)
+  guarded ws vs o p e f = both-unless Both ws vs q r o p e refused f
+
+  pub heat-rows : (x : Hundredths) → _≡_ {A = List Row} (unsound cfg q ∷ unserved cfg 0x12 ∷ row 22 (not (inHeatLimits cfg (q .attrs .settings) x)) ∷ []) (unsound cfg r ∷ unserved cfg 0x12 ∷ row 22 (not (inHeatLimits cfg (r .attrs .settings) x)) ∷ [])
+  heat-rows x = simp (sq, sr, same-in-heat cfg (q .attrs .settings) (r .attrs .settings) l x x refl)
+
+  pub cool-rows : (x : Hundredths) → _≡_ {A = List Row} (unsound cfg q ∷ unserved cfg 0x11 ∷ row 22 (not (inCoolLimits cfg (q .attrs .settings) x)) ∷ []) (unsound cfg r ∷ unserved cfg 0x11 ∷ row 22 (not (inCoolLimits cfg (r .attrs .settings) x)) ∷ [])
+  cool-rows x = simp (sq, sr, same-in-cool cfg (q .attrs .settings) (r .attrs .settings) l x x refl)
+
+  pub in-force : EqualLimits cfg (q .attrs .settings) (r .attrs .settings)
+  in-force = limits-in-force cfg (q .attrs .settings) (r .attrs .settings) l
+
+  pub min-heat-rows : (x : Hundredths) → minHeatRows cfg q x ≡ minHeatRows cfg r x
+  min-heat-rows x = simp (sq, sr, l .maxheat, in-force .min-cool)
+
+  pub max-heat-rows : (x : Hundredths) → maxHeatRows cfg q x ≡ maxHeatRows cfg r x
+  max-heat-rows x = simp (sq, sr, l .minheat, in-force .max-cool)
+
+  pub min-cool-rows : (x : Hundredths) → minCoolRows cfg q x ≡ minCoolRows cfg r x
+  min-cool-rows x = simp (sq, sr, l .maxcool, in-force .min-heat)
+
+  pub max-cool-rows : (x : Hundredths) → maxCoolRows cfg q x ≡ maxCoolRows cfg r x
+  max-cool-rows x = simp (sq, sr, l .mincool, in-force .max-heat)
+
+  -- a stored limit and its pull, on both
+  pub heat-limit-both : (a b : Attrs) (code : ℕ) → SameLimits (a .settings) (b .settings) → (SamePoints cfg (q .attrs .settings) (r .attrs .settings) → SamePoints cfg (a .settings) (b .settings)) → heats cfg ≡ true
+      → Both (applied cfg d (andThen (limitStored cfg q a code) (pullHeating cfg d))) (applied cfg d (andThen (limitStored cfg r b code) (pullHeating cfg d)))
+  unfolding applied askSweep
+  heat-limit-both a b code m f h =
+      let x = withAttrs q a in
+      let y = withAttrs r b in
+      let z = chained (pull-heat-limits cfg d x) (pull-heat-limits cfg d y) m in
+      record {
+        number = refl;
+        limits = record { minheat = z .minheat; maxheat = z .maxheat; mincool = z .mincool; maxcool = z .maxcool };
+        points = λ p. let w = pull-heat-points cfg d x y m (f p) h in record { heating = w .heating; cooling = w .cooling };
+      }
+
+  pub cool-limit-both : (a b : Attrs) (code : ℕ) → SameLimits (a .settings) (b .settings) → (SamePoints cfg (q .attrs .settings) (r .attrs .settings) → SamePoints cfg (a .settings) (b .settings)) → cools cfg ≡ true
+      → Both (applied cfg d (andThen (limitStored cfg q a code) (pullCooling cfg d))) (applied cfg d (andThen (limitStored cfg r b code) (pullCooling cfg d)))
+  unfolding applied askSweep
+  cool-limit-both a b code m f c =
+      let x = withAttrs q a in
+      let y = withAttrs r b in
+      let z = chained (pull-cool-limits cfg d x) (pull-cool-limits cfg d y) m in
+      record {
+        number = refl;
+        limits = record { minheat = z .minheat; maxheat = z .maxheat; mincool = z .mincool; maxcool = z .maxcool };
+        points = λ p. let w = pull-cool-points cfg d x y m (f p) c in record { heating = w .heating; cooling = w .cooling };
+      }
+
+  -- settings as they were on both
+  pub kept-both : (o p : Outcome) → o .number ≡ p .number → o .rec .attrs ≡ q .attrs → p .rec .attrs ≡ r .attrs → Both o p
+  kept-both o p n e f =
+      record {
+        number = n;
+        limits = subst (λ (a : Attrs). SameLimits (a .settings) (p .rec .attrs .settings)) (sym e) (subst (λ (b : Attrs). SameLimits (q .attrs .settings) (b .settings)) (sym f) l);
+        points = λ k. subst (λ (a : Attrs). SamePoints cfg (a .settings) (p .rec .attrs .settings)) (sym e) (subst (λ (b : Attrs). SamePoints cfg (q .attrs .settings) (b .settings)) (sym f) k);
+      }
+
+  pub message-both : (m : OutOfBandMessage) → Both (messageTaken cfg q m) (messageTaken cfg r m)
+  unfolding heatingMessage coolingMessage modeMessage limitsMessage askSweep
+  message-both LocalTemperature = record { number = refl; limits = l; points = λ p. p }
+  message-both RunningState = record { number = refl; limits = l; points = λ p. p }
+  message-both Update = record { number = refl; limits = l; points = λ p. p }
+  message-both (OccupiedHeatingSetpoint x) =
+      record {
+        number = refl;
+        limits = record { minheat = l .minheat; maxheat = l .maxheat; mincool = l .mincool; maxcool = l .maxcool };
+        points = λ p. record { heating = λ h. same-clamp-heat cfg (q .attrs .settings) (r .attrs .settings) l x x refl; cooling = p .cooling };
+      }
+  message-both (OccupiedCoolingSetpoint x) =
+      record {
+        number = refl;
+        limits = record { minheat = l .minheat; maxheat = l .maxheat; mincool = l .mincool; maxcool = l .maxcool };
+        points = λ p. record { heating = p .heating; cooling = λ c. same-clamp-cool cfg (q .attrs .settings) (r .attrs .settings) l x x refl };
+      }
+  message-both (SystemMode m) =
+      guarded _ _ _ _ refl
+      (λ c. record {
+        number = refl;
+        limits = record { minheat = l .minheat; maxheat = l .maxheat; mincool = l .mincool; maxcool = l .maxcool };
+        points = λ p. record { heating = p .heating; cooling = p .cooling };
+      })
+  message-both (SetpointLimits x y z w) =
+      let k = limits-taken cfg v (SamePoints cfg (q .attrs .settings) (r .attrs .settings)) (q .attrs) (r .attrs) (λ p. p) x y z w in
+      record { number = refl; limits = k .limits; points = k .points }
+
+  pub sound-row : _≡_ {A = List Row} (unsound cfg q ∷ []) (unsound cfg r ∷ [])
+  sound-row = simp (sq, sr)
+
+  pub raised-both : (mode : ℕ) (a : Tenths) → namesAbsentSide cfg mode ≡ false → Both (applied cfg d (raiseSides cfg d mode a (armedClock cfg d q))) (applied cfg d (raiseSides cfg d mode a (armedClock cfg d r)))
+  unfolding applied askSweep armedClock
+  raised-both mode a z =
+      let x = armedClock cfg d q in
+      let y = armedClock cfg d r in
+      record { number = refl; limits = chained (raise-limits cfg d mode a x) (raise-limits cfg d mode a y) l; points = λ p. raise-points cfg d x y l p mode a z }
+
+  pub step-both : (k : Call) → Both (step cfg q d k) (step cfg r d k)
+  unfolding step writeOccupiedHeatingSetpoint writeOccupiedCoolingSetpoint writeMinHeatSetpointLimit writeMaxHeatSetpointLimit writeMinCoolSetpointLimit writeMaxCoolSetpointLimit writeSystemMode setControlSequenceOfOperation raiseLowerSetpoint armClock outOfBandMessage seedEvents sweep timer deadline applied askSweep started claimSetpoints
+  step-both (WriteOccupiedHeatingSetpoint x) =
+      guarded _ _ _ _ (heat-rows x)
+      (λ c. record { number = refl; limits = chained (heating-limits cfg d external x q) (heating-limits cfg d external x r) l; points = λ p. heating-points cfg d q r l x x refl (p .cooling) })
+  step-both (WriteOccupiedCoolingSetpoint x) =
+      guarded _ _ _ _ (cool-rows x)
+      (λ c. record { number = refl; limits = chained (cooling-limits cfg d external x q) (cooling-limits cfg d external x r) l; points = λ p. cooling-points cfg d q r l x x refl (p .heating) })
+  step-both (WriteMinHeatSetpointLimit x) =
+      guarded _ _ _ _ (min-heat-rows x)
+      (λ c. heat-limit-both (setMinHeat (q .attrs) x) (setMinHeat (r .attrs) x) 0x15 (record { minheat = refl; maxheat = l .maxheat; mincool = l .mincool; maxcool = l .maxcool }) (λ p. record { heating = p .heating; cooling = p .cooling })
+      (v .limits-heat (heat-served cfg v (or-left (serves cfg 0x15) (serves cfg 0x16) (not-false (serves cfg 0x15) (c .1 .0))))))
+  step-both (WriteMaxHeatSetpointLimit x) =
+      guarded _ _ _ _ (max-heat-rows x)
+      (λ c. heat-limit-both (setMaxHeat (q .attrs) x) (setMaxHeat (r .attrs) x) 0x16 (record { minheat = l .minheat; maxheat = refl; mincool = l .mincool; maxcool = l .maxcool }) (λ p. record { heating = p .heating; cooling = p .cooling })
+      (v .limits-heat (heat-served cfg v (or-right (serves cfg 0x15) (serves cfg 0x16) (not-false (serves cfg 0x16) (c .1 .0))))))
+  step-both (WriteMinCoolSetpointLimit x) =
+      guarded _ _ _ _ (min-cool-rows x)
+      (λ c. cool-limit-both (setMinCool (q .attrs) x) (setMinCool (r .attrs) x) 0x17 (record { minheat = l .minheat; maxheat = l .maxheat; mincool = refl; maxcool = l .maxcool }) (λ p. record { heating = p .heating; cooling = p .cooling })
+      (v .limits-cool (cool-served cfg v (or-left (serves cfg 0x17) (serves cfg 0x18) (not-false (serves cfg 0x17) (c .1 .0))))))
+  step-both (WriteMaxCoolSetpointLimit x) =
+      guarded _ _ _ _ (max-cool-rows x)
+      (λ c. cool-limit-both (setMaxCool (q .attrs) x) (setMaxCool (r .attrs) x) 0x18 (record { minheat = l .minheat; maxheat = l .maxheat; mincool = l .mincool; maxcool = refl }) (λ p. record { heating = p .heating; cooling = p .cooling })
+      (v .limits-cool (cool-served cfg v (or-right (serves cfg 0x17) (serves cfg 0x18) (not-false (serves cfg 0x18) (c .1 .0))))))
+  step-both (WriteSystemMode m) =
+      guarded _ _ _ _ (simp (sq, sr))
+      (λ c. record {
+        number = refl;
+        limits = record { minheat = l .minheat; maxheat = l .maxheat; mincool = l .mincool; maxcool = l .maxcool };
+        points = λ p. record { heating = p .heating; cooling = p .cooling };
+      })
+  step-both (SetControlSequenceOfOperation m) = guarded _ _ _ _ sound-row (λ c. refused 0)
+  step-both (RaiseLowerSetpoint mode amount) =
+      guarded _ _ _ _ sound-row (λ c. both-unless Both _ _ (armedClock cfg d q) (armedClock cfg d r) _ _ refl (λ n. kept-both _ _ refl (settings-armed cfg v d q) (settings-armed cfg v d r))
+      (λ e. raised-both mode amount (e .1 .0)))
+  step-both ArmClock = guarded _ _ _ _ sound-row (λ c. kept-both _ _ refl (settings-armed cfg v d q) (settings-armed cfg v d r))
+  step-both (OutOfBand m) = guarded _ _ _ _ sound-row (λ c. message-both m)
+  step-both SeedEvents = guarded _ _ _ _ sound-row (λ c. kept-both _ _ refl refl refl)
+  step-both Sweep = guarded _ _ _ _ (simp (sq, sr)) (λ c. kept-both _ _ (swept-done cfg q d ∙ sym (swept-done cfg r d)) (swept-attrs cfg d q) (swept-attrs cfg d r))
+  step-both Timer = guarded _ _ _ _ (simp (sq, sr)) (λ c. kept-both _ _ refl (events-attrs cfg d q) (events-attrs cfg d r))
+  step-both Deadline = guarded _ _ _ _ sound-row (λ c. record { number = refl; limits = l; points = λ p. p })
