@@ -1,10 +1,7 @@
 // An answer as a line of output.
 mod lists;
-mod sizes;
-mod text;
 
-pub use text::Page;
-ghost use Rattle.printing.specs.Pages.{Room, Within};
+ghost use Rattle.text.specs.Pages.{Room, Within};
 use model::Answer;
 use model::Attributed;
 use model::Attrs;
@@ -16,6 +13,7 @@ use model::SetpointChangeState;
 use model::Settings;
 use model::Shadow;
 use model::Snapshot;
+use text::Page;
 
 fn settings(page: &mut Page, at: usize, s: Settings) -> usize
     requires { ⌜ Room at 224 ⌝ }

@@ -1,12 +1,11 @@
 // The notices and the events of an answer.
 ghost use Prim.Native.Nat.{_≤_};
 ghost use lib.ListN.{length};
-ghost use Rattle.printing.specs.Pages.{Room, Within};
-use crate::text;
-use crate::text::Page;
+ghost use Rattle.text.specs.Pages.{Room, Within};
 use model::Event;
 use model::Events;
 use model::Notices;
+use text::Page;
 use units::Hundredths;
 
 fn at_most(n: usize, most: usize) -> usize

@@ -5,7 +5,7 @@ ghost use mathlib.Core.Path.{_≡_};
 ghost use Rattle.sessions.specs.Sessions.{Sound, Placed};
 use crate::serve;
 use crate::session::Session;
-use printing::Page;
+use text::Page;
 
 // A line of more bytes than this less one is too long, so no more of it is kept.
 pub type Held = [u8; 251];

@@ -2,7 +2,7 @@
 ghost use Prim.Native.Nat.{_≤_};
 ghost use mathlib.Core.Path.{_≡_};
 ghost use lib.ListN.{length};
-ghost use Rattle.printing.specs.Pages.{Room, Within};
+ghost use Rattle.text.specs.Pages.{Room, Within};
 ghost use Rattle.sessions.specs.Sessions.{Placed, Sound, Ready, SameState, Opened, Answered};
 use crate::feed::Held;
 use crate::session::Session;
@@ -13,7 +13,7 @@ use model::Controller;
 use model::Moment;
 use model::Readings;
 use model::Settings;
-use printing::Page;
+use text::Page;
 
 fn write_front(out: &[u8], n: usize) -> bool
     requires { ⌜ n ≤ length (now out) ⌝ }

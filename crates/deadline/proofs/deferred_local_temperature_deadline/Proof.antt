@@ -2,7 +2,7 @@ use mathlib.Core.Path.{_∙_, sym, ap}
 use mathlib.Core.Bool.{not}
 use Rattle.model.proofs.Packing.{push-none, push-all-append, emit-none, emit-one, emit-all-append}
 use borrow.Author.Tests.{not-false}
-use Rattle.model.proofs.Kept.{good}
+use Rattle.model.proofs.Good.{good}
 use Rattle.model.specs.Answers.{packed, packedEvents}
 use Rattle.model.specs.Refusals.{unless}
 use Rattle.model.specs.Sweep.{deadline, deferredDeadline}

@@ -1,10 +1,10 @@
--- `printing::text::decimal` meets its contract: there are at most 20 digits. Assumes nothing.
+-- `text::decimal` meets its contract: there are at most 20 digits. Assumes nothing.
 use Prim.Native.Nat.{_≤_, _^_, _<_}
 use native.Mathlib.Omega.{arith}
 use borrow.Author.Needs.{needs}
-use Rattle.printing.proofs.Digits.{at-most}
-use Rattle.printing.proofs.text.decimal.Statement.{statement}
-use Rattle.printing.proofs.text.decimal.Tie as tie
+use Rattle.text.proofs.Digits.{at-most}
+use Rattle.text.proofs.decimal.Statement.{statement}
+use Rattle.text.proofs.decimal.Tie as tie
 
 few : (c : tie.After-decimal) → c .decimal .result ≤ 20
 few c = at-most 10 1 (c .before .before .args .n) (c .decimal .result) 20 (omega arith) (omega arith) (omega arith) (c .decimal .ensures .1 .0)

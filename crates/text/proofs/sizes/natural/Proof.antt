@@ -1,4 +1,4 @@
--- `printing::sizes::natural` meets its contract. Assumes nothing.
+-- `text::sizes::natural` meets its contract. Assumes nothing.
 use native.Mathlib.Omega.{arith}
 use mathlib.Core.Path.{_≡_}
 use mathlib.Core.Bool.{true, false}
@@ -10,8 +10,8 @@ use mir.Val.{SFits, Fits}
 use mir.Facts.{toZ-ofZ}
 use Rattle.integers.specs.Linear.{linear, posPart}
 use Rattle.integers.specs.Widths.{ranges}
-use Rattle.printing.proofs.sizes.natural.Statement.{statement}
-use Rattle.printing.proofs.sizes.natural.Tie as tie
+use Rattle.text.proofs.sizes.natural.Statement.{statement}
+use Rattle.text.proofs.sizes.natural.Tie as tie
 
 under : (z : ℤ) → ltZ z (pos 0) ≡ true → _≡_ 0 (posPart z)
 under (pos n) t = absurd (omega linear)

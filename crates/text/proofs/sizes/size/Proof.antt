@@ -1,12 +1,12 @@
--- `printing::sizes::size` meets its contract: the greater of a number and its opposite is its distance from zero. Assumes nothing.
+-- `text::sizes::size` meets its contract: the greater of a number and its opposite is its distance from zero. Assumes nothing.
 use mathlib.Core.Path.{_≡_, _∙_, ap, ap₂}
 use lib.IntN.{ℤ, pos, negsuc, natAbs, _-ℤ_}
 use Rattle.integers.specs.Linear.{linear, posPart, diff-parts}
 use Rattle.integers.specs.Clamp.{maxZ, max-parts}
 use Rattle.units.specs.Units.{widened, minus, greater}
 use Rattle.units.specs.declared.Wide.{Wide}
-use Rattle.printing.proofs.sizes.size.Statement.{statement}
-use Rattle.printing.proofs.sizes.size.Tie as tie
+use Rattle.text.proofs.sizes.size.Statement.{statement}
+use Rattle.text.proofs.sizes.size.Tie as tie
 
 either : (z : ℤ) → maxZ z (pos 0 -ℤ z) ≡ pos (natAbs z)
 either (pos n) = omega (linear, max-parts (pos n) (pos 0 -ℤ pos n), diff-parts (pos 0) (pos n))

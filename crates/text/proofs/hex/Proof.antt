@@ -1,10 +1,10 @@
--- `printing::text::hex` meets its contract: there are at most 16 digits. Assumes nothing.
+-- `text::hex` meets its contract: there are at most 16 digits. Assumes nothing.
 use Prim.Native.Nat.{_≤_, _^_, _<_}
 use native.Mathlib.Omega.{arith}
 use borrow.Author.Needs.{needs}
-use Rattle.printing.proofs.Digits.{at-most}
-use Rattle.printing.proofs.text.hex.Statement.{statement}
-use Rattle.printing.proofs.text.hex.Tie as tie
+use Rattle.text.proofs.Digits.{at-most}
+use Rattle.text.proofs.hex.Statement.{statement}
+use Rattle.text.proofs.hex.Tie as tie
 
 few : (c : tie.After-hex) → c .hex .result ≤ 16
 few c = at-most 16 2 (c .before .before .args .n) (c .hex .result) 16 (omega arith) (omega arith) (omega arith) (c .hex .ensures .1 .0)

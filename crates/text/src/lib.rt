@@ -1,9 +1,10 @@
 // Text and numbers, written to a page of output from a place on. Each function answers the place after what it wrote.
+mod sizes;
+
 ghost use Prim.Native.Nat.{_+_, _≤_};
 ghost use mathlib.Core.Path.{_≡_};
 ghost use lib.ListN.{length};
-ghost use Rattle.printing.specs.Pages.{Room, Within};
-use crate::sizes;
+ghost use Rattle.text.specs.Pages.{Room, Within};
 use model::Amount;
 use model::Moment;
 use model::Second;
