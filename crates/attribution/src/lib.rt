@@ -1,17 +1,17 @@
 // model/specs/Attribution: recording, arming, the claimed pair.
 ghost use mathlib.Core.Path.{_≡_};
 ghost use mathlib.Core.Bool.{cond};
-ghost use Rattle.model.specs.Records.{zeroHundredths};
-ghost use Rattle.model.specs.declared.Second.the-variants.{NoSecond};
+ghost use Rattle.records.specs.Records.{zeroHundredths};
+ghost use Rattle.records.specs.declared.Second.the-variants.{NoSecond};
 ghost use Rattle.model.specs.Attribution.{stamp as stampOf, recorded, withAttributed, withArmed, armedClock, servedSetpoints, claimSetpoints};
-use model::Amount;
-use model::Attributed;
-use model::Config;
-use model::Controller;
-use model::Readings;
-use model::Second;
-use model::SetpointChangeState;
-use model::Settings;
+use records::Amount;
+use records::Attributed;
+use records::Config;
+use records::Controller;
+use records::Readings;
+use records::Second;
+use records::SetpointChangeState;
+use records::Settings;
 use units::Hundredths;
 
 pub const MANUAL: u8 = 0;

@@ -2,11 +2,11 @@
 ghost use mathlib.Core.Path.{_≡_};
 ghost use Rattle.model.specs.Answers.{answer};
 ghost use Rattle.model.specs.Step.{step as stepOf};
-use model::Answer;
-use model::Call;
-use model::Config;
-use model::Controller;
-use model::Readings;
+use records::Answer;
+use records::Call;
+use records::Config;
+use records::Controller;
+use records::Readings;
 
 pub fn step(cfg: Config, rec: Controller, d: Readings, call: Call) -> Answer
     ensures { λ r. ⌜ r ≡ answer (stepOf cfg rec d call) ⌝ }

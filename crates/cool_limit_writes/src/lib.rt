@@ -1,44 +1,18 @@
 // model/specs/Writes: the writes of the cooling limits.
 ghost use mathlib.Core.Path.{_≡_};
-ghost use Rattle.model.specs.Answers.{answer, andThen};
+ghost use Rattle.model.specs.Answers.{answer};
 ghost use Rattle.model.specs.Writes as spec;
-ghost use Rattle.stages.specs.Stages.{staged};
-use model::Answer;
-use model::Attrs;
-use model::Config;
-use model::Controller;
-use model::Notices;
-use model::Readings;
-use model::Settings;
-use parts::answers;
-use parts::orders;
-use parts::records;
-use stages::Stage;
+use records::Answer;
+use records::Config;
+use records::Controller;
+use records::Readings;
+use records::Settings;
 use units::Hundredths;
-
-fn pull_cooling(cfg: Config, r: Controller, n: Notices, d: Readings) -> Stage
-    ensures { λ q. ⌜ q ≡ staged n (spec.pullCooling cfg d r) ⌝ }
-{
-    let s = r.attrs.settings;
-    if limits::in_cool_limits(cfg, s, s.cooling) {
-        return Stage { rec: r, notices: n };
-    }
-    let v = limits::clamp_cool_setpoint(cfg, s, units::widen(s.cooling));
-    stores::store_cooling_setpoint(cfg, r, n, d, attribution::EXTERNAL, v)
-}
-
-fn store_cool_limit(cfg: Config, r: Controller, d: Readings, a: Attrs, code: u16) -> Answer
-    ensures { λ q. ⌜ q ≡ answer (spec.applied cfg d (andThen (spec.limitStored cfg r a code) (spec.pullCooling cfg d))) ⌝ }
-{
-    let n = answers::notify(cfg, Notices::none(), code);
-    let s = pull_cooling(cfg, records::with_attrs(r, a), n, d);
-    stages::apply(cfg, d, s)
-}
 
 fn bars_min_cool(cfg: Config, s: Settings, v: Hundredths) -> bool
     ensures { λ r. ⌜ r ≡ spec.barsMinCool cfg s v ⌝ }
 {
-    let inside = units::is_within(v, cfg.absmincool, s.maxcool);
+    let inside = ranges::is_within(v, cfg.absmincool, s.maxcool);
     let auto = served::auto(cfg);
     let near = units::is_below(
         v,
@@ -50,7 +24,7 @@ fn bars_min_cool(cfg: Config, s: Settings, v: Hundredths) -> bool
 fn bars_max_cool(cfg: Config, s: Settings, v: Hundredths) -> bool
     ensures { λ r. ⌜ r ≡ spec.barsMaxCool cfg s v ⌝ }
 {
-    let inside = units::is_within(v, s.mincool, cfg.absmaxcool);
+    let inside = ranges::is_within(v, s.mincool, cfg.absmaxcool);
     let auto = served::auto(cfg);
     let near = units::is_below(
         v,
@@ -76,7 +50,7 @@ pub fn write_min_cool_setpoint_limit(
     if bars_min_cool(cfg, r.attrs.settings, v) {
         return orders::quiet_answer(22, r);
     }
-    store_cool_limit(cfg, r, d, records::set_min_cool(r.attrs, v), 0x17)
+    limit_stores::store_cool_limit(cfg, r, d, attrs::set_min_cool(r.attrs, v), 0x17)
 }
 
 pub fn write_max_cool_setpoint_limit(
@@ -96,5 +70,5 @@ pub fn write_max_cool_setpoint_limit(
     if bars_max_cool(cfg, r.attrs.settings, v) {
         return orders::quiet_answer(22, r);
     }
-    store_cool_limit(cfg, r, d, records::set_max_cool(r.attrs, v), 0x18)
+    limit_stores::store_cool_limit(cfg, r, d, attrs::set_max_cool(r.attrs, v), 0x18)
 }

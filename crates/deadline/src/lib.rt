@@ -4,16 +4,15 @@ ghost use mathlib.Core.Bool.{true};
 ghost use Rattle.model.specs.Answers.{answer};
 ghost use Rattle.model.specs.Sound.{soundLast};
 ghost use Rattle.model.specs.Sweep as spec;
-use model::Answer;
-use model::Config;
-use model::Controller;
-use model::Events;
-use model::Moment;
-use model::Notices;
-use model::Order;
-use model::Readings;
-use model::Shadow;
-use parts::orders;
+use records::Answer;
+use records::Config;
+use records::Controller;
+use records::Events;
+use records::Moment;
+use records::Notices;
+use records::Order;
+use records::Readings;
+use records::Shadow;
 
 fn is_waiting(cfg: Config, d: Readings, s: Shadow) -> bool
     ensures { λ r. ⌜ r ≡ spec.waiting cfg d s ⌝ }

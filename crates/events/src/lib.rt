@@ -1,21 +1,21 @@
 // model/specs/Sweep: start, and taking events.
 ghost use mathlib.Core.Path.{_≡_};
-ghost use Rattle.model.specs.declared.Moment.the-variants.{Never};
-ghost use Rattle.model.specs.declared.Order.the-variants.{NoOrder};
-ghost use Rattle.model.specs.declared.Shadow.the-variants.{Seeded};
+ghost use Rattle.records.specs.declared.Moment.the-variants.{Never};
+ghost use Rattle.records.specs.declared.Order.the-variants.{NoOrder};
+ghost use Rattle.records.specs.declared.Shadow.the-variants.{Seeded};
 ghost use Rattle.model.specs.Sweep as spec;
 ghost use Rattle.events.specs.Parts.{packedTaken};
-use model::Answer;
-use model::Config;
-use model::Controller;
-use model::EventState;
-use model::Events;
-use model::Moment;
-use model::Notices;
-use model::Order;
-use model::Readings;
-use model::Shadow;
-use model::Snapshot;
+use records::Answer;
+use records::Config;
+use records::Controller;
+use records::EventState;
+use records::Events;
+use records::Moment;
+use records::Notices;
+use records::Order;
+use records::Readings;
+use records::Shadow;
+use records::Snapshot;
 
 // What taking events leaves.
 pub struct Taken {
@@ -52,7 +52,7 @@ fn take_since(cfg: Config, d: Readings, r: Controller, old: Snapshot) -> Taken
     }
     let e = r.events;
     let last = e.last;
-    let f = reports::commit(cfg, old, new, last, d.clock);
+    let f = commits::commit(cfg, old, new, last, d.clock);
     let events = reports::events_of(cfg, old, new, last, d.clock);
     let mut q = r;
     q.events = f;

@@ -2,8 +2,8 @@
 ghost use mathlib.Core.Path.{_≡_};
 ghost use Rattle.model.specs.Units.{deadBand};
 ghost use Rattle.model.specs.Limits.{minHeatSetpoint, maxHeatSetpoint, minCoolSetpoint, maxCoolSetpoint, inHeatLimits, inCoolLimits, clampHeatSetpoint, clampCoolSetpoint};
-use model::Config;
-use model::Settings;
+use records::Config;
+use records::Settings;
 use units::Hundredths;
 use units::Wide;
 
@@ -55,23 +55,23 @@ pub fn max_cool_setpoint(cfg: Config, s: Settings) -> Hundredths
 pub fn in_heat_limits(cfg: Config, s: Settings, v: Hundredths) -> bool
     ensures { λ r. ⌜ r ≡ inHeatLimits cfg s v ⌝ }
 {
-    units::is_within(v, min_heat_setpoint(cfg, s), max_heat_setpoint(cfg, s))
+    ranges::is_within(v, min_heat_setpoint(cfg, s), max_heat_setpoint(cfg, s))
 }
 
 pub fn in_cool_limits(cfg: Config, s: Settings, v: Hundredths) -> bool
     ensures { λ r. ⌜ r ≡ inCoolLimits cfg s v ⌝ }
 {
-    units::is_within(v, min_cool_setpoint(cfg, s), max_cool_setpoint(cfg, s))
+    ranges::is_within(v, min_cool_setpoint(cfg, s), max_cool_setpoint(cfg, s))
 }
 
 pub fn clamp_heat_setpoint(cfg: Config, s: Settings, v: Wide) -> Hundredths
     ensures { λ r. ⌜ r ≡ clampHeatSetpoint cfg s v ⌝ }
 {
-    units::clamp(v, min_heat_setpoint(cfg, s), max_heat_setpoint(cfg, s))
+    ranges::clamp(v, min_heat_setpoint(cfg, s), max_heat_setpoint(cfg, s))
 }
 
 pub fn clamp_cool_setpoint(cfg: Config, s: Settings, v: Wide) -> Hundredths
     ensures { λ r. ⌜ r ≡ clampCoolSetpoint cfg s v ⌝ }
 {
-    units::clamp(v, min_cool_setpoint(cfg, s), max_cool_setpoint(cfg, s))
+    ranges::clamp(v, min_cool_setpoint(cfg, s), max_cool_setpoint(cfg, s))
 }

@@ -1,8 +1,8 @@
 // The call that a line names.
 use crate::fields::Fields;
 use crate::forms;
-use model::Call;
-use model::OutOfBandMessage;
+use records::Call;
+use records::OutOfBandMessage;
 
 fn message_of(row: usize, f: Fields) -> OutOfBandMessage {
     match row {

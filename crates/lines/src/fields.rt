@@ -2,8 +2,7 @@
 use crate::forms;
 use crate::forms::NUMBERS;
 use crate::letters;
-use crate::words;
-use crate::words::Field;
+use words::Field;
 
 pub struct Slot {
     pub field: Field,

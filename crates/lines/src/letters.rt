@@ -1,5 +1,5 @@
 // What the letters of a form stand for.
-use crate::words::Field;
+use words::Field;
 
 // What a letter takes: no number, or those from minus the first to the second.
 pub enum Range {

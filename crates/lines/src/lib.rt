@@ -6,15 +6,14 @@ mod letters;
 mod numbers;
 mod signed;
 mod values;
-mod words;
 
 ghost use Rattle.lines.specs.Lines.{Judged};
 use fields::Fields;
-use model::Call;
-use model::Config;
-use model::Controller;
-use model::Readings;
-use model::Settings;
+use records::Call;
+use records::Config;
+use records::Controller;
+use records::Readings;
+use records::Settings;
 
 pub enum Line {
     // Empty or a comment.

@@ -4,16 +4,16 @@ ghost use mathlib.Core.Path.{_≡_};
 ghost use Prim.Native.Nat.{_<_};
 ghost use mir.Syntax.{w8, w16};
 ghost use mir.Val.{SFits};
-ghost use Rattle.lines.specs.Words.{sizeOf, valueOf, isGiven};
+ghost use Rattle.words.specs.Words.{sizeOf, valueOf, isGiven};
 use crate::fields::Fields;
 use crate::signed;
-use crate::words::Field;
-use model::Amount;
-use model::Moment;
-use model::Second;
-use model::Temperature;
+use records::Amount;
+use records::Moment;
+use records::Second;
+use records::Temperature;
 use units::Hundredths;
 use units::Tenths;
+use words::Field;
 
 fn size_of(f: Field) -> u64
     ensures { λ r. ⌜ r ≡ sizeOf f ⌝ }

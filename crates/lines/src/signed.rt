@@ -23,7 +23,7 @@ pub(crate) fn negative(n: u64) -> Hundredths
     if n == 32768 {
         return Hundredths::LOWEST;
     }
-    units::saturating_sub(Hundredths::ZERO, positive(n))
+    ranges::saturating_sub(Hundredths::ZERO, positive(n))
 }
 
 // What 8 bits cannot hold is read as 0.

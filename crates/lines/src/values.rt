@@ -1,20 +1,20 @@
 // The numbers of a sound line as the values that they stand for.
 ghost use Prim.Native.Nat.{_≤_};
 use crate::fields::Fields;
-use crate::words::Field;
-use model::Attributed;
-use model::Attrs;
-use model::Config;
-use model::Controller;
-use model::EventState;
-use model::Moment;
-use model::Readings;
-use model::Second;
-use model::SetpointChangeState;
-use model::Settings;
-use model::Shadow;
-use model::Snapshot;
-use model::Temperature;
+use records::Attributed;
+use records::Attrs;
+use records::Config;
+use records::Controller;
+use records::EventState;
+use records::Moment;
+use records::Readings;
+use records::Second;
+use records::SetpointChangeState;
+use records::Settings;
+use records::Shadow;
+use records::Snapshot;
+use records::Temperature;
+use words::Field;
 
 pub(crate) fn config_of(f: Fields) -> Config {
     Config {

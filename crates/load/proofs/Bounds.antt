@@ -5,16 +5,16 @@ use mathlib.Core.Bool.{Bool, true, false, not, _&&_, cond}
 use mathlib.Core.List.{List, [], _∷_}
 use lib.Dec.{ltb, eqb}
 use borrow.Author.Tests.{ltb-true}
-use Rattle.model.specs.Records.{noNotices, noEvents}
+use Rattle.records.specs.Records.{noNotices, noEvents}
 use Rattle.model.specs.Answers.{foldLeft, push, pushAll, packed, emit, emitAll, packedEvents, answer}
 use Rattle.model.specs.Plant.{plant, noReadings}
 use Rattle.model.specs.Step.{step}
-use Rattle.model.specs.declared.Answer.{Answer}
-use Rattle.model.specs.declared.Event.{Event}
-use Rattle.model.specs.declared.Notices.{Notices}
-use Rattle.model.specs.declared.Events.{Events}
-use Rattle.model.specs.declared.Order.{Order}
-use Rattle.model.specs.declared.Order.the-variants.{NoOrder, Apply}
+use Rattle.records.specs.declared.Answer.{Answer}
+use Rattle.records.specs.declared.Event.{Event}
+use Rattle.records.specs.declared.Notices.{Notices}
+use Rattle.records.specs.declared.Events.{Events}
+use Rattle.records.specs.declared.Order.{Order}
+use Rattle.records.specs.declared.Order.the-variants.{NoOrder, Apply}
 use Rattle.model.proofs.Logic.{by-cond}
 use Rattle.load.specs.Totals.{oneIf, ordersOf, chosenOf, turned, isSweep, loadOf, Roomy}
 use Rattle.load.specs.declared.totals.Load.{Load}

@@ -6,9 +6,9 @@ use lib.IntN.{pos, _-ℤ_}
 use Rattle.units.specs.declared.Hundredths.{Hundredths}
 use Rattle.units.specs.declared.Tenths.{Tenths}
 use Rattle.model.specs.Plant.{at}
-use Rattle.model.specs.declared.Call.{Call}
-use Rattle.model.specs.declared.Call.the-variants.{WriteOccupiedHeatingSetpoint, WriteOccupiedCoolingSetpoint, WriteSystemMode, RaiseLowerSetpoint, OutOfBand}
-use Rattle.model.specs.declared.OutOfBandMessage.the-variants.{SetpointLimits}
+use Rattle.records.specs.declared.Call.{Call}
+use Rattle.records.specs.declared.Call.the-variants.{WriteOccupiedHeatingSetpoint, WriteOccupiedCoolingSetpoint, WriteSystemMode, RaiseLowerSetpoint, OutOfBand}
+use Rattle.records.specs.declared.OutOfBandMessage.the-variants.{SetpointLimits}
 use Rattle.load.specs.declared.draws.Drawn.{Drawn}
 
 abbrev pub nextOf : ℕ → ℕ

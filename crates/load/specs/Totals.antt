@@ -5,10 +5,10 @@ use lib.Dec.{eqb}
 use Rattle.model.specs.Answers.{answer}
 use Rattle.model.specs.Plant.{plant, plantSettings, noReadings}
 use Rattle.model.specs.Step.{opened, step}
-use Rattle.model.specs.declared.Answer.{Answer}
-use Rattle.model.specs.declared.Order.{Order}
-use Rattle.model.specs.declared.Order.the-variants.{NoOrder, Apply}
-use Rattle.model.specs.declared.Call.the-variants.{Sweep}
+use Rattle.records.specs.declared.Answer.{Answer}
+use Rattle.records.specs.declared.Order.{Order}
+use Rattle.records.specs.declared.Order.the-variants.{NoOrder, Apply}
+use Rattle.records.specs.declared.Call.the-variants.{Sweep}
 use Rattle.load.specs.Draws.{drawn, drawOf}
 use Rattle.load.specs.declared.draws.Drawn.{Drawn}
 use Rattle.load.specs.declared.totals.Load.{Load}

@@ -2,8 +2,8 @@
 ghost use mathlib.Core.Path.{_≡_};
 ghost use Prim.Native.Nat.{_<_};
 ghost use Rattle.load.specs.Draws.{nextOf, fieldOf, setpointOf, amountOf, heatingOf, coolingOf, modeOf, raiseOf, limitsOf, drawOf};
-use model::Call;
-use model::OutOfBandMessage;
+use records::Call;
+use records::OutOfBandMessage;
 use units::Hundredths;
 use units::Tenths;
 

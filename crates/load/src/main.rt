@@ -6,7 +6,7 @@ mod totals;
 ghost use Prim.Native.Nat.{_<_};
 ghost use Rattle.load.specs.Arguments.{Below};
 use arguments::Read;
-use model::Settings;
+use records::Settings;
 use totals::Load;
 use units::Hundredths;
 

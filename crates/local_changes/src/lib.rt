@@ -1,17 +1,17 @@
 // model/specs/Sweep: a local setpoint change is attributed.
 ghost use mathlib.Core.Path.{_≡_};
 ghost use mathlib.Core.Bool.{_||_};
-ghost use Rattle.model.specs.Records.{changedTo, withChange};
+ghost use Rattle.records.specs.Records.{changedTo, withChange};
 ghost use Rattle.model.specs.Answers.{unchanged};
 ghost use Rattle.model.specs.Attribution.{withAttributed};
-ghost use Rattle.model.specs.declared.Attributed.the-variants.{Claimed};
+ghost use Rattle.records.specs.declared.Attributed.the-variants.{Claimed};
 ghost use Rattle.model.specs.Sweep as spec;
 ghost use Rattle.stages.specs.Stages.{staged};
-use model::Attributed;
-use model::Config;
-use model::Controller;
-use model::Notices;
-use model::Readings;
+use records::Attributed;
+use records::Config;
+use records::Controller;
+use records::Notices;
+use records::Readings;
 use stages::Stage;
 use units::Hundredths;
 
@@ -20,9 +20,9 @@ fn local_change(h: Hundredths, c: Hundredths, oldh: Hundredths, oldc: Hundredths
     ensures { λ r. ⌜ r ≡ spec.localChange h c oldh oldc ⌝ }
 {
     if !units::same(oldh, h) {
-        return units::saturating_sub(h, oldh);
+        return ranges::saturating_sub(h, oldh);
     }
-    units::saturating_sub(c, oldc)
+    ranges::saturating_sub(c, oldc)
 }
 
 fn record_local(

@@ -2,14 +2,11 @@
 ghost use mathlib.Core.Path.{_≡_};
 ghost use Rattle.model.specs.Answers.{answer};
 ghost use Rattle.model.specs.Writes as spec;
-use model::Answer;
-use model::Config;
-use model::Controller;
-use model::Notices;
-use model::Readings;
-use parts::answers;
-use parts::orders;
-use parts::records;
+use records::Answer;
+use records::Config;
+use records::Controller;
+use records::Notices;
+use records::Readings;
 use stages::Stage;
 
 // SystemMode is noticed last, and always.
@@ -23,7 +20,7 @@ pub fn write_system_mode(cfg: Config, r: Controller, d: Readings, v: u8) -> Answ
         return orders::quiet_answer(22, r);
     }
     let n = Notices::none();
-    let q = records::with_attrs(r, records::set_mode(r.attrs, v));
+    let q = attrs::with_attrs(r, attrs::set_mode(r.attrs, v));
     let s = Stage { rec: q, notices: n };
     let mut o = stages::apply(cfg, d, s);
     let m = answers::notify(cfg, o.notices, 0x1C);

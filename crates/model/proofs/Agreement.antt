@@ -19,13 +19,13 @@ use Rattle.model.specs.Orders.{askSweep}
 use Rattle.model.specs.Writes.{unserved, applied, storeHeatingSetpoint, storeCoolingSetpoint, writeOccupiedHeatingSetpoint, writeOccupiedCoolingSetpoint, writeSystemMode}
 use Rattle.model.specs.Messages.{messageTaken, limitsMessage, limitsTaken, outOfBandMessage}
 use Rattle.model.specs.Step.{opened, step}
-use Rattle.model.specs.declared.Config.{Config}
-use Rattle.model.specs.declared.Settings.{Settings}
-use Rattle.model.specs.declared.Attrs.{Attrs}
-use Rattle.model.specs.declared.Controller.{Controller}
-use Rattle.model.specs.declared.Readings.{Readings}
-use Rattle.model.specs.declared.OutOfBandMessage.the-variants.{SetpointLimits}
-use Rattle.model.specs.declared.Call.the-variants.{WriteOccupiedHeatingSetpoint, WriteOccupiedCoolingSetpoint, WriteSystemMode}
+use Rattle.records.specs.declared.Config.{Config}
+use Rattle.records.specs.declared.Settings.{Settings}
+use Rattle.records.specs.declared.Attrs.{Attrs}
+use Rattle.records.specs.declared.Controller.{Controller}
+use Rattle.records.specs.declared.Readings.{Readings}
+use Rattle.records.specs.declared.OutOfBandMessage.the-variants.{SetpointLimits}
+use Rattle.records.specs.declared.Call.the-variants.{WriteOccupiedHeatingSetpoint, WriteOccupiedCoolingSetpoint, WriteSystemMode}
 use Rattle.model.specs.Claims.{Entry, entry, after, number, run, numbers, AllAccepted, EqualSetpoints, limitsEntry, Adjacent, heating-cooling, cooling-heating, heating-only, cooling-only, LimitsThenWrites, ModeWritten, Agreement, LimitsAgree, ModesAgree, SetpointsAgree}
 use Rattle.model.proofs.Logic.{accepted-clear, clear-outcome, clash}
 use Rattle.model.proofs.Valid.{Valid, valid}

@@ -12,7 +12,7 @@ use Rattle.integers.specs.Clamp.{clampZ, maxZ, minZ, max-parts, min-parts, clam
 use Rattle.units.specs.Units.{plus, minus, above, below, widened, greater, lesser, clamped, raised}
 use Rattle.units.specs.declared.Hundredths.{Hundredths}
 use Rattle.units.specs.declared.Tenths.{Tenths}
-use Rattle.model.specs.Records.{changedTo, withAttrs, setHeating, setCooling, setMinHeat, setMaxHeat, setMinCool, setMaxCool, setMode, withPending}
+use Rattle.records.specs.Records.{changedTo, withAttrs, setHeating, setCooling, setMinHeat, setMaxHeat, setMinCool, setMaxCool, setMode, withPending}
 use Rattle.model.specs.Answers.{Outcome, Stage, quiet, andThen, unchanged}
 use Rattle.model.specs.Refusals.{Row, unless, Clear, numbered}
 use Rattle.model.specs.Served.{heats, cools, auto, serves, listed}
@@ -27,19 +27,19 @@ use Rattle.model.specs.Writes.{applied, tooNearCooling, tooNearHeating, 
 use Rattle.model.specs.Messages.{messageTaken, heatingMessage, coolingMessage, modeMessage, limitsMessage, limitsTaken, outOfBandMessage}
 use Rattle.model.specs.Sweep.{Taken, snapshotOf, sameSnapshot, localRecorded, attributedTo, attributeLocalSetpointChange, started, takenFrom, takeEvents, sweepEvents, swept, sweep, timer, seedEvents, deadline}
 use Rattle.model.specs.Step.{opened, step}
-use Rattle.model.specs.declared.Config.{Config}
-use Rattle.model.specs.declared.Settings.{Settings}
-use Rattle.model.specs.declared.Attrs.{Attrs}
-use Rattle.model.specs.declared.Shadow.{Shadow}
-use Rattle.model.specs.declared.Shadow.the-variants.{Unseeded, Seeded}
-use Rattle.model.specs.declared.Attributed.{Attributed}
-use Rattle.model.specs.declared.Attributed.the-variants.{Unclaimed, Claimed}
-use Rattle.model.specs.declared.Controller.{Controller}
-use Rattle.model.specs.declared.Readings.{Readings}
-use Rattle.model.specs.declared.OutOfBandMessage.{OutOfBandMessage}
-use Rattle.model.specs.declared.OutOfBandMessage.the-variants.{LocalTemperature, RunningState, Update, OccupiedHeatingSetpoint, OccupiedCoolingSetpoint, SystemMode, SetpointLimits}
-use Rattle.model.specs.declared.Call.{Call}
-use Rattle.model.specs.declared.Call.the-variants.{WriteOccupiedHeatingSetpoint, WriteOccupiedCoolingSetpoint, WriteMinHeatSetpointLimit, WriteMaxHeatSetpointLimit, WriteMinCoolSetpointLimit, WriteMaxCoolSetpointLimit, WriteSystemMode, SetControlSequenceOfOperation, RaiseLowerSetpoint, ArmClock, OutOfBand, SeedEvents, Sweep, Timer, Deadline}
+use Rattle.records.specs.declared.Config.{Config}
+use Rattle.records.specs.declared.Settings.{Settings}
+use Rattle.records.specs.declared.Attrs.{Attrs}
+use Rattle.records.specs.declared.Shadow.{Shadow}
+use Rattle.records.specs.declared.Shadow.the-variants.{Unseeded, Seeded}
+use Rattle.records.specs.declared.Attributed.{Attributed}
+use Rattle.records.specs.declared.Attributed.the-variants.{Unclaimed, Claimed}
+use Rattle.records.specs.declared.Controller.{Controller}
+use Rattle.records.specs.declared.Readings.{Readings}
+use Rattle.records.specs.declared.OutOfBandMessage.{OutOfBandMessage}
+use Rattle.records.specs.declared.OutOfBandMessage.the-variants.{LocalTemperature, RunningState, Update, OccupiedHeatingSetpoint, OccupiedCoolingSetpoint, SystemMode, SetpointLimits}
+use Rattle.records.specs.declared.Call.{Call}
+use Rattle.records.specs.declared.Call.the-variants.{WriteOccupiedHeatingSetpoint, WriteOccupiedCoolingSetpoint, WriteMinHeatSetpointLimit, WriteMaxHeatSetpointLimit, WriteMinCoolSetpointLimit, WriteMaxCoolSetpointLimit, WriteSystemMode, SetControlSequenceOfOperation, RaiseLowerSetpoint, ArmClock, OutOfBand, SeedEvents, Sweep, Timer, Deadline}
 use Rattle.model.specs.Claims.{Entry, after, number, run, licenceAfter, licensed, GapKept, InBand, Band}
 use Rattle.model.proofs.Logic.{clash, not-both, by-cond, by-refusal}
 use Rattle.model.proofs.Valid.{Valid, valid}

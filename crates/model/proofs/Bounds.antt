@@ -11,7 +11,7 @@ use Rattle.units.specs.declared.Tenths.{Tenths}
 use Rattle.model.specs.Answers.{Outcome, Stage, onlyIf, quiet, andThen, unchanged}
 use Rattle.model.specs.Refusals.{Row, unless}
 use Rattle.model.specs.Served.{serves, noticed, heats, cools, listed}
-use Rattle.model.specs.Records.{changedTo, withAttrs, withPending, setMinHeat, setMaxHeat, setMinCool, setMaxCool}
+use Rattle.records.specs.Records.{changedTo, withAttrs, withPending, setMinHeat, setMaxHeat, setMinCool, setMaxCool}
 use Rattle.model.specs.Modes.{runningState}
 use Rattle.model.specs.Limits.{inHeatLimits, inCoolLimits, clampHeatSetpoint, clampCoolSetpoint}
 use Rattle.units.specs.Units.{widened}
@@ -21,21 +21,21 @@ use Rattle.model.specs.Messages.{messageTaken, modeMessage, heatingMessa
 use Rattle.model.specs.Sweep.{Taken, started, localRecorded, tellsMode, tellsTemperature, tellsCooling, tellsHeating, tellsRelays, tellsRunningMode, sameSnapshot, snapshotOf, noticeTable, rowNotices, tableNotices, attributedTo, attributeLocalSetpointChange, eventsOf, takenFrom, takeEvents, sweepEvents, swept, sweep, timer, seedEvents, deadline}
 use Rattle.model.specs.Step.{step}
 use Rattle.model.specs.Laws.{Bounded}
-use Rattle.model.specs.declared.Config.{Config}
-use Rattle.model.specs.declared.Shadow.{Shadow}
-use Rattle.model.specs.declared.Shadow.the-variants.{Unseeded, Seeded}
-use Rattle.model.specs.declared.Attributed.{Attributed}
-use Rattle.model.specs.declared.Attributed.the-variants.{Unclaimed, Claimed}
-use Rattle.model.specs.declared.Event.the-variants.{SystemModeChange, LocalTemperatureChange, SetpointChange, RunningStateChange, RunningModeChange}
-use Rattle.model.specs.declared.NoticeRow.{NoticeRow}
-use Rattle.model.specs.declared.Snapshot.{Snapshot}
-use Rattle.model.specs.declared.Moment.{Moment}
-use Rattle.model.specs.declared.Controller.{Controller}
-use Rattle.model.specs.declared.Readings.{Readings}
-use Rattle.model.specs.declared.OutOfBandMessage.{OutOfBandMessage}
-use Rattle.model.specs.declared.OutOfBandMessage.the-variants.{LocalTemperature, RunningState, Update, OccupiedHeatingSetpoint, OccupiedCoolingSetpoint, SystemMode, SetpointLimits}
-use Rattle.model.specs.declared.Call.{Call}
-use Rattle.model.specs.declared.Call.the-variants.{WriteOccupiedHeatingSetpoint, WriteOccupiedCoolingSetpoint, WriteMinHeatSetpointLimit, WriteMaxHeatSetpointLimit, WriteMinCoolSetpointLimit, WriteMaxCoolSetpointLimit, WriteSystemMode, SetControlSequenceOfOperation, RaiseLowerSetpoint, ArmClock, OutOfBand, SeedEvents, Sweep, Timer, Deadline}
+use Rattle.records.specs.declared.Config.{Config}
+use Rattle.records.specs.declared.Shadow.{Shadow}
+use Rattle.records.specs.declared.Shadow.the-variants.{Unseeded, Seeded}
+use Rattle.records.specs.declared.Attributed.{Attributed}
+use Rattle.records.specs.declared.Attributed.the-variants.{Unclaimed, Claimed}
+use Rattle.records.specs.declared.Event.the-variants.{SystemModeChange, LocalTemperatureChange, SetpointChange, RunningStateChange, RunningModeChange}
+use Rattle.records.specs.declared.NoticeRow.{NoticeRow}
+use Rattle.records.specs.declared.Snapshot.{Snapshot}
+use Rattle.records.specs.declared.Moment.{Moment}
+use Rattle.records.specs.declared.Controller.{Controller}
+use Rattle.records.specs.declared.Readings.{Readings}
+use Rattle.records.specs.declared.OutOfBandMessage.{OutOfBandMessage}
+use Rattle.records.specs.declared.OutOfBandMessage.the-variants.{LocalTemperature, RunningState, Update, OccupiedHeatingSetpoint, OccupiedCoolingSetpoint, SystemMode, SetpointLimits}
+use Rattle.records.specs.declared.Call.{Call}
+use Rattle.records.specs.declared.Call.the-variants.{WriteOccupiedHeatingSetpoint, WriteOccupiedCoolingSetpoint, WriteMinHeatSetpointLimit, WriteMaxHeatSetpointLimit, WriteMinCoolSetpointLimit, WriteMaxCoolSetpointLimit, WriteSystemMode, SetControlSequenceOfOperation, RaiseLowerSetpoint, ArmClock, OutOfBand, SeedEvents, Sweep, Timer, Deadline}
 use Rattle.model.proofs.Logic.{length-onlyIf, by-cond, by-unless}
 
 -- at most n of them

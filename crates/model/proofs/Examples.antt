@@ -5,8 +5,8 @@ use Rattle.model.specs.Plant.{at, plant, noReadings}
 use Rattle.model.specs.Claims.{LimitsThenWrites, heating-cooling, ModeWritten}
 use Rattle.model.specs.Examples.{first, plainly, front, narrowed, middle, pair, rest, wholeList, Worked, BetweenParts, LimitWritesPart}
 use Rattle.model.specs.Everything.{everything}
-use Rattle.model.specs.declared.OutOfBandMessage.the-variants.{OccupiedHeatingSetpoint}
-use Rattle.model.specs.declared.Call.the-variants.{SeedEvents, WriteOccupiedHeatingSetpoint, OutOfBand}
+use Rattle.records.specs.declared.OutOfBandMessage.the-variants.{OccupiedHeatingSetpoint}
+use Rattle.records.specs.declared.Call.the-variants.{SeedEvents, WriteOccupiedHeatingSetpoint, OutOfBand}
 
 -- the premises can be met
 pub writes-met : LimitsThenWrites plant first wholeList

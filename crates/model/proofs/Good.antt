@@ -7,7 +7,7 @@ use borrow.Author.Tests.{not-false, ltb-false, le-leb}
 use Rattle.units.specs.Units.{plus, within, widened, raised, inHundredths}
 use Rattle.units.specs.declared.Hundredths.{Hundredths}
 use Rattle.units.specs.declared.Tenths.{Tenths}
-use Rattle.model.specs.Records.{changedTo, withAttrs, setMode, withPending}
+use Rattle.records.specs.Records.{changedTo, withAttrs, setMode, withPending}
 use Rattle.model.specs.Answers.{Outcome, Stage, quiet, unchanged}
 use Rattle.model.specs.Served.{heats, cools, listed}
 use Rattle.model.specs.Limits.{minHeatSetpoint, maxHeatSetpoint, minCoolSetpoint, maxCoolSetpoint, inHeatLimits, inCoolLimits, clampHeatSetpoint, clampCoolSetpoint}
@@ -19,18 +19,18 @@ use Rattle.model.specs.Orders.{askSweep}
 use Rattle.model.specs.Writes.{applied, tooNearCooling, tooNearHeating, coolingBeside, heatingBeside, storeHeatingSetpoint, storeCoolingSetpoint, pullHeating, pullCooling, raiseHeating, raiseCooling, raiseBoth, raiseSides}
 use Rattle.model.specs.Messages.{messageTaken, heatingMessage, coolingMessage, modeMessage, limitsMessage, limitsTaken}
 use Rattle.model.specs.Sweep.{Taken, snapshotOf, started, attributedTo, localRecorded, attributeLocalSetpointChange, sameSnapshot, committed, tellsTemperature, takenFrom, takeEvents, sweepEvents, swept}
-use Rattle.model.specs.declared.Config.{Config}
-use Rattle.model.specs.declared.Settings.{Settings}
-use Rattle.model.specs.declared.Moment.{Moment}
-use Rattle.model.specs.declared.Moment.the-variants.{Ms}
-use Rattle.model.specs.declared.Shadow.{Shadow}
-use Rattle.model.specs.declared.Shadow.the-variants.{Unseeded, Seeded}
-use Rattle.model.specs.declared.Attributed.{Attributed}
-use Rattle.model.specs.declared.Attributed.the-variants.{Unclaimed, Claimed}
-use Rattle.model.specs.declared.Controller.{Controller}
-use Rattle.model.specs.declared.Readings.{Readings}
-use Rattle.model.specs.declared.OutOfBandMessage.{OutOfBandMessage}
-use Rattle.model.specs.declared.OutOfBandMessage.the-variants.{LocalTemperature, RunningState, Update, OccupiedHeatingSetpoint, OccupiedCoolingSetpoint, SystemMode, SetpointLimits}
+use Rattle.records.specs.declared.Config.{Config}
+use Rattle.records.specs.declared.Settings.{Settings}
+use Rattle.records.specs.declared.Moment.{Moment}
+use Rattle.records.specs.declared.Moment.the-variants.{Ms}
+use Rattle.records.specs.declared.Shadow.{Shadow}
+use Rattle.records.specs.declared.Shadow.the-variants.{Unseeded, Seeded}
+use Rattle.records.specs.declared.Attributed.{Attributed}
+use Rattle.records.specs.declared.Attributed.the-variants.{Unclaimed, Claimed}
+use Rattle.records.specs.declared.Controller.{Controller}
+use Rattle.records.specs.declared.Readings.{Readings}
+use Rattle.records.specs.declared.OutOfBandMessage.{OutOfBandMessage}
+use Rattle.records.specs.declared.OutOfBandMessage.the-variants.{LocalTemperature, RunningState, Update, OccupiedHeatingSetpoint, OccupiedCoolingSetpoint, SystemMode, SetpointLimits}
 use Rattle.model.proofs.Logic.{both, implied, implies, neither, by-cond, by-unless}
 use Rattle.model.proofs.Valid.{Valid}
 use Rattle.model.proofs.Chain.{LimitTests, Placed, InForce, in-force, clamp-inside, heat-clamped, cool-clamped}

@@ -9,7 +9,7 @@ use borrow.Author.Tests.{not-false}
 use Rattle.integers.specs.Linear.{linear}
 use Rattle.units.specs.Units.{plus, minus, above, below, within}
 use Rattle.units.specs.declared.Hundredths.{Hundredths}
-use Rattle.model.specs.Records.{withAttrs, setMinHeat, setMaxHeat, setMinCool, setMaxCool, setMode}
+use Rattle.records.specs.Records.{withAttrs, setMinHeat, setMaxHeat, setMinCool, setMaxCool, setMode}
 use Rattle.model.specs.Answers.{Outcome, andThen, unchanged}
 use Rattle.model.specs.Refusals.{Row, unless, Clear}
 use Rattle.model.specs.Served.{auto, serves, hasHeatLimits, hasCoolLimits, someHeatLimit, someCoolLimit}
@@ -25,13 +25,13 @@ use Rattle.model.specs.Messages.{outOfBandMessage}
 use Rattle.model.specs.Sweep.{sweep, timer, seedEvents, deadline}
 use Rattle.model.specs.Step.{opened, step}
 use Rattle.model.specs.Laws.{OpenedSound, StepSound}
-use Rattle.model.specs.declared.Config.{Config}
-use Rattle.model.specs.declared.Settings.{Settings}
-use Rattle.model.specs.declared.Attrs.{Attrs}
-use Rattle.model.specs.declared.Controller.{Controller}
-use Rattle.model.specs.declared.Readings.{Readings}
-use Rattle.model.specs.declared.Call.{Call}
-use Rattle.model.specs.declared.Call.the-variants.{WriteOccupiedHeatingSetpoint, WriteOccupiedCoolingSetpoint, WriteMinHeatSetpointLimit, WriteMaxHeatSetpointLimit, WriteMinCoolSetpointLimit, WriteMaxCoolSetpointLimit, WriteSystemMode, SetControlSequenceOfOperation, RaiseLowerSetpoint, ArmClock, OutOfBand, SeedEvents, Sweep, Timer, Deadline}
+use Rattle.records.specs.declared.Config.{Config}
+use Rattle.records.specs.declared.Settings.{Settings}
+use Rattle.records.specs.declared.Attrs.{Attrs}
+use Rattle.records.specs.declared.Controller.{Controller}
+use Rattle.records.specs.declared.Readings.{Readings}
+use Rattle.records.specs.declared.Call.{Call}
+use Rattle.records.specs.declared.Call.the-variants.{WriteOccupiedHeatingSetpoint, WriteOccupiedCoolingSetpoint, WriteMinHeatSetpointLimit, WriteMaxHeatSetpointLimit, WriteMinCoolSetpointLimit, WriteMaxCoolSetpointLimit, WriteSystemMode, SetControlSequenceOfOperation, RaiseLowerSetpoint, ArmClock, OutOfBand, SeedEvents, Sweep, Timer, Deadline}
 use Rattle.model.proofs.Logic.{neither, or-left, or-right, not-both, by-unless}
 use Rattle.model.proofs.Valid.{Valid, valid}
 use Rattle.model.proofs.Chain.{LimitTests, inside, apart, heat-ordered, is-heat-ordered, cool-ordered, is-cool-ordered, gaps, is-gaps}

@@ -10,7 +10,7 @@ use borrow.Author.Tests.{ltb-true, ne-eqb}
 use lib.ListN.{length}
 use Rattle.model.specs.Answers.{Outcome, onlyIf, quiet}
 use Rattle.model.specs.Refusals.{Row, firstFailing, thenRows, unless, Clear, numbered}
-use Rattle.model.specs.declared.Controller.{Controller}
+use Rattle.records.specs.declared.Controller.{Controller}
 
 pub both : (a b : Bool) → a && b ≡ true → (a ≡ true) × (b ≡ true)
 both true b e = (refl, e)

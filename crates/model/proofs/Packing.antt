@@ -8,13 +8,13 @@ use native.Mathlib.Omega.{arith}
 use borrow.Author.Tests.{lt-ltb}
 use lib.ListN.{length, take, set, length-set, length-replicate}
 use lib.Seq.{take-suc-set}
-use Rattle.model.specs.Records.{noNotices, noEvents}
+use Rattle.records.specs.Records.{noNotices, noEvents}
 use Rattle.model.specs.Answers.{foldLeft, onlyIf, push, pushAll, packed, emit, emitAll, packedEvents}
-use Rattle.model.specs.declared.Event.{Event}
-use Rattle.model.specs.declared.Event.the-variants.{NoEvent}
-use Rattle.model.specs.declared.EventSlot.{EventSlot}
-use Rattle.model.specs.declared.Notices.{Notices}
-use Rattle.model.specs.declared.Events.{Events}
+use Rattle.records.specs.declared.Event.{Event}
+use Rattle.records.specs.declared.Event.the-variants.{NoEvent}
+use Rattle.records.specs.declared.EventSlot.{EventSlot}
+use Rattle.records.specs.declared.Notices.{Notices}
+use Rattle.records.specs.declared.Events.{Events}
 
 fold-append : {A B : Type 0} (f : A → B → A) (a : A) (l m : List B) → foldLeft f a (l ++ m) ≡ foldLeft f (foldLeft f a l) m
 fold-append f a [] m = refl

@@ -7,7 +7,7 @@ use borrow.Author.Tests.{not-false}
 use Rattle.units.specs.Units.{equal}
 use Rattle.units.specs.declared.Hundredths.{Hundredths}
 use Rattle.units.specs.declared.Tenths.{Tenths}
-use Rattle.model.specs.Records.{withAttrs, setMinHeat, setMaxHeat, setMinCool, setMaxCool}
+use Rattle.records.specs.Records.{withAttrs, setMinHeat, setMaxHeat, setMinCool, setMaxCool}
 use Rattle.model.specs.Answers.{Outcome, quiet, andThen}
 use Rattle.model.specs.Refusals.{Row, row, unless, Clear}
 use Rattle.model.specs.Served.{heats, cools, serves}
@@ -21,14 +21,14 @@ use Rattle.model.specs.Writes.{minHeatRows, maxHeatRows, minCoolRows, ma
 use Rattle.model.specs.Messages.{messageTaken, heatingMessage, coolingMessage, modeMessage, limitsMessage, limitsTaken, outOfBandMessage}
 use Rattle.model.specs.Sweep.{sweep, timer, started, seedEvents, deadline}
 use Rattle.model.specs.Step.{step}
-use Rattle.model.specs.declared.Config.{Config}
-use Rattle.model.specs.declared.Attrs.{Attrs}
-use Rattle.model.specs.declared.Controller.{Controller}
-use Rattle.model.specs.declared.Readings.{Readings}
-use Rattle.model.specs.declared.OutOfBandMessage.{OutOfBandMessage}
-use Rattle.model.specs.declared.OutOfBandMessage.the-variants.{LocalTemperature, RunningState, Update, OccupiedHeatingSetpoint, OccupiedCoolingSetpoint, SystemMode, SetpointLimits}
-use Rattle.model.specs.declared.Call.{Call}
-use Rattle.model.specs.declared.Call.the-variants.{WriteOccupiedHeatingSetpoint, WriteOccupiedCoolingSetpoint, WriteMinHeatSetpointLimit, WriteMaxHeatSetpointLimit, WriteMinCoolSetpointLimit, WriteMaxCoolSetpointLimit, WriteSystemMode, SetControlSequenceOfOperation, RaiseLowerSetpoint, ArmClock, OutOfBand, SeedEvents, Sweep, Timer, Deadline}
+use Rattle.records.specs.declared.Config.{Config}
+use Rattle.records.specs.declared.Attrs.{Attrs}
+use Rattle.records.specs.declared.Controller.{Controller}
+use Rattle.records.specs.declared.Readings.{Readings}
+use Rattle.records.specs.declared.OutOfBandMessage.{OutOfBandMessage}
+use Rattle.records.specs.declared.OutOfBandMessage.the-variants.{LocalTemperature, RunningState, Update, OccupiedHeatingSetpoint, OccupiedCoolingSetpoint, SystemMode, SetpointLimits}
+use Rattle.records.specs.declared.Call.{Call}
+use Rattle.records.specs.declared.Call.the-variants.{WriteOccupiedHeatingSetpoint, WriteOccupiedCoolingSetpoint, WriteMinHeatSetpointLimit, WriteMaxHeatSetpointLimit, WriteMinCoolSetpointLimit, WriteMaxCoolSetpointLimit, WriteSystemMode, SetControlSequenceOfOperation, RaiseLowerSetpoint, ArmClock, OutOfBand, SeedEvents, Sweep, Timer, Deadline}
 use Rattle.model.specs.Claims.{after, number, numbers, EqualLimits}
 use Rattle.model.proofs.Logic.{or-left, or-right}
 use Rattle.model.proofs.Valid.{Valid, valid}

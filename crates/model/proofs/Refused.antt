@@ -5,7 +5,7 @@ use mathlib.Core.Bool.{Bool, true, false, cond}
 use mathlib.Core.List.{List, [], _∷_}
 use Prim.Native.Nat.{ℕ}
 use lib.Dec.{ltb, eqb}
-use Rattle.model.specs.Records.{withPending}
+use Rattle.records.specs.Records.{withPending}
 use Rattle.model.specs.Served.{listed}
 use Rattle.model.specs.Answers.{Outcome, quiet}
 use Rattle.model.specs.Refusals.{Row, row, unless}
@@ -16,13 +16,13 @@ use Rattle.model.specs.Sweep.{noticeTable, tableNotices, sweepEvents, sw
 use Rattle.model.specs.Step.{step}
 use Rattle.model.specs.Laws.{Refused, DoneOrRefused, UnsoundRefused}
 use Rattle.model.specs.Sound.{sound, unsound}
-use Rattle.model.specs.declared.Config.{Config}
-use Rattle.model.specs.declared.Controller.{Controller}
-use Rattle.model.specs.declared.Readings.{Readings}
-use Rattle.model.specs.declared.OutOfBandMessage.{OutOfBandMessage}
-use Rattle.model.specs.declared.OutOfBandMessage.the-variants.{LocalTemperature, RunningState, Update, OccupiedHeatingSetpoint, OccupiedCoolingSetpoint, SystemMode, SetpointLimits}
-use Rattle.model.specs.declared.Call.{Call}
-use Rattle.model.specs.declared.Call.the-variants.{WriteOccupiedHeatingSetpoint, WriteOccupiedCoolingSetpoint, WriteMinHeatSetpointLimit, WriteMaxHeatSetpointLimit, WriteMinCoolSetpointLimit, WriteMaxCoolSetpointLimit, WriteSystemMode, SetControlSequenceOfOperation, RaiseLowerSetpoint, ArmClock, OutOfBand, SeedEvents, Sweep, Timer, Deadline}
+use Rattle.records.specs.declared.Config.{Config}
+use Rattle.records.specs.declared.Controller.{Controller}
+use Rattle.records.specs.declared.Readings.{Readings}
+use Rattle.records.specs.declared.OutOfBandMessage.{OutOfBandMessage}
+use Rattle.records.specs.declared.OutOfBandMessage.the-variants.{LocalTemperature, RunningState, Update, OccupiedHeatingSetpoint, OccupiedCoolingSetpoint, SystemMode, SetpointLimits}
+use Rattle.records.specs.declared.Call.{Call}
+use Rattle.records.specs.declared.Call.the-variants.{WriteOccupiedHeatingSetpoint, WriteOccupiedCoolingSetpoint, WriteMinHeatSetpointLimit, WriteMaxHeatSetpointLimit, WriteMinCoolSetpointLimit, WriteMaxCoolSetpointLimit, WriteSystemMode, SetControlSequenceOfOperation, RaiseLowerSetpoint, ArmClock, OutOfBand, SeedEvents, Sweep, Timer, Deadline}
 use Rattle.model.proofs.Logic.{by-unless}
 
 module _ (cfg : Config) (r : Controller) (d : Readings) where

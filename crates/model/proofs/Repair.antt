@@ -10,16 +10,16 @@ use Rattle.integers.specs.Clamp.{clampZ, minZ, min-parts, clamp-low, clamp-high
 use Rattle.units.specs.Units.{minus, widened, clamped, plus, greater, lesser}
 use Rattle.units.specs.declared.Hundredths.{Hundredths}
 use Rattle.units.specs.declared.Wide.{Wide}
-use Rattle.model.specs.Records.{setHeating, setCooling, setMode}
+use Rattle.records.specs.Records.{setHeating, setCooling, setMode}
 use Rattle.model.specs.Served.{heats, cools, auto, hasHeatLimits, hasCoolLimits}
 use Rattle.model.specs.Units.{deadBand}
 use Rattle.model.specs.Limits.{minHeatSetpoint, maxHeatSetpoint, minCoolSetpoint, maxCoolSetpoint, inHeatLimits, inCoolLimits, clampHeatSetpoint, clampCoolSetpoint}
 use Rattle.model.specs.Modes.{isSupportedSystemMode}
 use Rattle.model.specs.Repair.{clampMinHeat, clampMaxHeat, clampMinCool, clampMaxCool, pullMinHeat, pullMaxHeat, clampHeating, clampCooling, pushCooling, pushHeating, repairMode, repairLimits, repairSetpoints, repaired}
 use Rattle.model.specs.Sound.{soundHeatLimits, soundCoolLimits, soundGap, soundHeating, soundCooling, soundSettings}
-use Rattle.model.specs.declared.Config.{Config}
-use Rattle.model.specs.declared.Attrs.{Attrs}
-use Rattle.model.specs.declared.Settings.{Settings}
+use Rattle.records.specs.declared.Config.{Config}
+use Rattle.records.specs.declared.Attrs.{Attrs}
+use Rattle.records.specs.declared.Settings.{Settings}
 use Rattle.model.proofs.Logic.{both, and-true, implies, by-cond, clash}
 use Rattle.model.proofs.Valid.{Valid}
 use Rattle.model.proofs.Chain.{Ordered, LimitTests, Placed, is-heat-ordered, is-cool-ordered, is-gaps, in-force, heat-clamped, cool-clamped}

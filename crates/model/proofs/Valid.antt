@@ -10,11 +10,11 @@ use Rattle.integers.specs.Linear.{linear, sum-parts, diff-parts, scale-parts}
 use Rattle.units.specs.Units.{inHundredths, less, minus, above, negative}
 use Rattle.units.specs.declared.Hundredths.{Hundredths}
 use Rattle.model.specs.Refusals.{Clear, thenRows}
-use Rattle.model.specs.Records.{zeroHundredths}
+use Rattle.records.specs.Records.{zeroHundredths}
 use Rattle.model.specs.Served.{heats, cools, auto, serves, hasHeatLimits, hasCoolLimits, someHeatLimit, someCoolLimit}
 use Rattle.model.specs.Units.{deadBand}
 use Rattle.model.specs.Validation.{differ, featureRows, attributeRows, limitRows, eventRows, numberRows, validated, accepted}
-use Rattle.model.specs.declared.Config.{Config}
+use Rattle.records.specs.declared.Config.{Config}
 use Rattle.model.proofs.Logic.{both, neither, not-both, clear, clear-append, then-append, first-then, by-cond}
 
 pub record Valid (cfg : Config) : Type 0 where

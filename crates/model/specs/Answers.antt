@@ -4,16 +4,16 @@ use mathlib.Core.List.{List, [], _∷_, _++_}
 use Prim.Native.Nat.{ℕ, _+_}
 use lib.Dec.{ltb}
 use lib.ListN.{set}
-use Rattle.model.specs.Records.{noNotices, noEvents}
-use Rattle.model.specs.declared.Moment.{Moment}
-use Rattle.model.specs.declared.Moment.the-variants.{Never}
-use Rattle.model.specs.declared.Controller.{Controller}
-use Rattle.model.specs.declared.Order.{Order}
-use Rattle.model.specs.declared.Order.the-variants.{NoOrder}
-use Rattle.model.specs.declared.Event.{Event}
-use Rattle.model.specs.declared.Notices.{Notices}
-use Rattle.model.specs.declared.Events.{Events}
-use Rattle.model.specs.declared.Answer.{Answer}
+use Rattle.records.specs.Records.{noNotices, noEvents}
+use Rattle.records.specs.declared.Moment.{Moment}
+use Rattle.records.specs.declared.Moment.the-variants.{Never}
+use Rattle.records.specs.declared.Controller.{Controller}
+use Rattle.records.specs.declared.Order.{Order}
+use Rattle.records.specs.declared.Order.the-variants.{NoOrder}
+use Rattle.records.specs.declared.Event.{Event}
+use Rattle.records.specs.declared.Notices.{Notices}
+use Rattle.records.specs.declared.Events.{Events}
+use Rattle.records.specs.declared.Answer.{Answer}
 
 -- number, record, order, notices, events; and the deadline, which only its query gives
 pub record Outcome : Type 0 where

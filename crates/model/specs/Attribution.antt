@@ -2,18 +2,18 @@
 use mathlib.Core.Bool.{cond}
 use Prim.Native.Nat.{ℕ}
 use Rattle.units.specs.declared.Hundredths.{Hundredths}
-use Rattle.model.specs.Records.{zeroHundredths, withChange}
+use Rattle.records.specs.Records.{zeroHundredths, withChange}
 use Rattle.model.specs.Served.{heats, cools, serves}
-use Rattle.model.specs.declared.Config.{Config}
-use Rattle.model.specs.declared.Settings.{Settings}
-use Rattle.model.specs.declared.Amount.the-variants.{Moved}
-use Rattle.model.specs.declared.Second.{Second}
-use Rattle.model.specs.declared.Second.the-variants.{NoSecond, At}
-use Rattle.model.specs.declared.Attributed.{Attributed}
-use Rattle.model.specs.declared.Attributed.the-variants.{Claimed}
-use Rattle.model.specs.declared.SetpointChangeState.{SetpointChangeState}
-use Rattle.model.specs.declared.Controller.{Controller}
-use Rattle.model.specs.declared.Readings.{Readings}
+use Rattle.records.specs.declared.Config.{Config}
+use Rattle.records.specs.declared.Settings.{Settings}
+use Rattle.records.specs.declared.Amount.the-variants.{Moved}
+use Rattle.records.specs.declared.Second.{Second}
+use Rattle.records.specs.declared.Second.the-variants.{NoSecond, At}
+use Rattle.records.specs.declared.Attributed.{Attributed}
+use Rattle.records.specs.declared.Attributed.the-variants.{Claimed}
+use Rattle.records.specs.declared.SetpointChangeState.{SetpointChangeState}
+use Rattle.records.specs.declared.Controller.{Controller}
+use Rattle.records.specs.declared.Readings.{Readings}
 
 -- sources: Manual 0, External 2
 abbrev pub manual : ℕ

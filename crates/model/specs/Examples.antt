@@ -6,14 +6,14 @@ use lib.IntN.{ℤ, pos, negsuc}
 use Rattle.model.specs.Step.{opened}
 use Rattle.model.specs.Plant.{at, plant, plantSettings, noReadings}
 use Rattle.model.specs.Claims.{Entry, entry, limitsEntry, run, numbers}
-use Rattle.model.specs.declared.Settings.{Settings}
-use Rattle.model.specs.declared.Controller.{Controller}
-use Rattle.model.specs.declared.Temperature.the-variants.{Reading}
-use Rattle.model.specs.declared.Second.the-variants.{NoSecond, At}
-use Rattle.model.specs.declared.Readings.{Readings}
-use Rattle.model.specs.declared.OutOfBandMessage.the-variants.{LocalTemperature, OccupiedHeatingSetpoint}
-use Rattle.model.specs.declared.Call.{Call}
-use Rattle.model.specs.declared.Call.the-variants.{WriteOccupiedHeatingSetpoint, WriteOccupiedCoolingSetpoint, WriteMinHeatSetpointLimit, WriteMaxHeatSetpointLimit, WriteMinCoolSetpointLimit, WriteMaxCoolSetpointLimit, WriteSystemMode, RaiseLowerSetpoint, OutOfBand, SeedEvents, Sweep}
+use Rattle.records.specs.declared.Settings.{Settings}
+use Rattle.records.specs.declared.Controller.{Controller}
+use Rattle.records.specs.declared.Temperature.the-variants.{Reading}
+use Rattle.records.specs.declared.Second.the-variants.{NoSecond, At}
+use Rattle.records.specs.declared.Readings.{Readings}
+use Rattle.records.specs.declared.OutOfBandMessage.the-variants.{LocalTemperature, OccupiedHeatingSetpoint}
+use Rattle.records.specs.declared.Call.{Call}
+use Rattle.records.specs.declared.Call.the-variants.{WriteOccupiedHeatingSetpoint, WriteOccupiedCoolingSetpoint, WriteMinHeatSetpointLimit, WriteMaxHeatSetpointLimit, WriteMinCoolSetpointLimit, WriteMaxCoolSetpointLimit, WriteSystemMode, RaiseLowerSetpoint, OutOfBand, SeedEvents, Sweep}
 
 abbrev pub plainly : Call → Entry
 plainly k = entry k noReadings

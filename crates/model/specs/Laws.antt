@@ -9,11 +9,11 @@ use Rattle.model.specs.Attribution.{armedClock}
 use Rattle.model.specs.Validation.{accepted}
 use Rattle.model.specs.Sound.{sound}
 use Rattle.model.specs.Step.{opened, step}
-use Rattle.model.specs.declared.Config.{Config}
-use Rattle.model.specs.declared.Settings.{Settings}
-use Rattle.model.specs.declared.Controller.{Controller}
-use Rattle.model.specs.declared.Readings.{Readings}
-use Rattle.model.specs.declared.Call.{Call}
+use Rattle.records.specs.declared.Config.{Config}
+use Rattle.records.specs.declared.Settings.{Settings}
+use Rattle.records.specs.declared.Controller.{Controller}
+use Rattle.records.specs.declared.Readings.{Readings}
+use Rattle.records.specs.declared.Call.{Call}
 
 -- no call gives more than 13 notices or 6 events
 abbrev pub Bounded : Type 0

@@ -1,4 +1,3 @@
-pub mod Records
 pub mod Answers
 pub mod Refusals
 pub mod Served

@@ -4,8 +4,8 @@ use Rattle.units.specs.Units.{clamped, within}
 use Rattle.units.specs.declared.Hundredths.{Hundredths}
 use Rattle.units.specs.declared.Wide.{Wide}
 use Rattle.model.specs.Served.{hasHeatLimits, hasCoolLimits}
-use Rattle.model.specs.declared.Config.{Config}
-use Rattle.model.specs.declared.Settings.{Settings}
+use Rattle.records.specs.declared.Config.{Config}
+use Rattle.records.specs.declared.Settings.{Settings}
 
 unfoldable pub minHeatSetpoint : Config → Settings → Hundredths
 minHeatSetpoint cfg s = cond (hasHeatLimits cfg) (s .minheat) (cfg .absminheat)

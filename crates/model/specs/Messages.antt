@@ -5,18 +5,18 @@ use Prim.Native.Nat.{ℕ}
 use lib.Bits.{bitOr}
 use Rattle.units.specs.Units.{widened, clamped}
 use Rattle.units.specs.declared.Hundredths.{Hundredths}
-use Rattle.model.specs.Records.{withAttrs, withPending, setHeating, setCooling, setMode, setLimits}
+use Rattle.records.specs.Records.{withAttrs, withPending, setHeating, setCooling, setMode, setLimits}
 use Rattle.model.specs.Answers.{Outcome, quiet}
 use Rattle.model.specs.Refusals.{row, unless}
 use Rattle.model.specs.Limits.{clampHeatSetpoint, clampCoolSetpoint}
 use Rattle.model.specs.Modes.{isSupportedSystemMode}
 use Rattle.model.specs.Repair.{repairedRecord}
 use Rattle.model.specs.Sound.{unsound}
-use Rattle.model.specs.declared.Config.{Config}
-use Rattle.model.specs.declared.Attrs.{Attrs}
-use Rattle.model.specs.declared.Controller.{Controller}
-use Rattle.model.specs.declared.OutOfBandMessage.{OutOfBandMessage}
-use Rattle.model.specs.declared.OutOfBandMessage.the-variants.{LocalTemperature, RunningState, Update, OccupiedHeatingSetpoint, OccupiedCoolingSetpoint, SystemMode, SetpointLimits}
+use Rattle.records.specs.declared.Config.{Config}
+use Rattle.records.specs.declared.Attrs.{Attrs}
+use Rattle.records.specs.declared.Controller.{Controller}
+use Rattle.records.specs.declared.OutOfBandMessage.{OutOfBandMessage}
+use Rattle.records.specs.declared.OutOfBandMessage.the-variants.{LocalTemperature, RunningState, Update, OccupiedHeatingSetpoint, OccupiedCoolingSetpoint, SystemMode, SetpointLimits}
 
 -- every accepted message sets its bits and bit 9
 abbrev pub raiseBits : Controller → ℕ → Controller

@@ -4,7 +4,7 @@ use Prim.Native.Nat.{ℕ}
 use lib.Bits.{bitAnd, bitOr}
 use lib.Dec.{eqb}
 use Rattle.model.specs.Served.{auto}
-use Rattle.model.specs.declared.Config.{Config}
+use Rattle.records.specs.declared.Config.{Config}
 
 -- sequences: 0 and 1 cool, 2 and 3 heat, 4 and 5 do both, any other neither
 unfoldable pub sequenceHeats : Config → Bool

@@ -1,13 +1,13 @@
 -- The plant order in which opening, writes, raise/lower and limits messages end.
 use mathlib.Core.Bool.{cond}
 use lib.Bits.{bitOr}
-use Rattle.model.specs.Records.{withPending}
+use Rattle.records.specs.Records.{withPending}
 use Rattle.model.specs.Served.{emitsAny}
-use Rattle.model.specs.declared.Config.{Config}
-use Rattle.model.specs.declared.Settings.{Settings}
-use Rattle.model.specs.declared.Order.{Order}
-use Rattle.model.specs.declared.Order.the-variants.{Apply}
-use Rattle.model.specs.declared.Controller.{Controller}
+use Rattle.records.specs.declared.Config.{Config}
+use Rattle.records.specs.declared.Settings.{Settings}
+use Rattle.records.specs.declared.Order.{Order}
+use Rattle.records.specs.declared.Order.the-variants.{Apply}
+use Rattle.records.specs.declared.Controller.{Controller}
 
 -- the plant order
 abbrev pub orderOf : Settings → Order

@@ -8,17 +8,17 @@ use Rattle.units.specs.declared.Hundredths.{Hundredths}
 use Rattle.model.specs.Answers.{Outcome}
 use Rattle.model.specs.Temperature.{significant, eventDue}
 use Rattle.model.specs.Step.{opened, step}
-use Rattle.model.specs.declared.Config.{Config}
-use Rattle.model.specs.declared.Settings.{Settings}
-use Rattle.model.specs.declared.Temperature.{Temperature}
-use Rattle.model.specs.declared.Temperature.the-variants.{NoReading, Reading}
-use Rattle.model.specs.declared.Second.the-variants.{NoSecond}
-use Rattle.model.specs.declared.Moment.the-variants.{Never, Ms}
-use Rattle.model.specs.declared.Controller.{Controller}
-use Rattle.model.specs.declared.Readings.{Readings}
-use Rattle.model.specs.declared.Call.{Call}
-use Rattle.model.specs.declared.Call.the-variants.{WriteOccupiedHeatingSetpoint, WriteOccupiedCoolingSetpoint, WriteMaxCoolSetpointLimit, RaiseLowerSetpoint, OutOfBand}
-use Rattle.model.specs.declared.OutOfBandMessage.the-variants.{OccupiedCoolingSetpoint, SetpointLimits}
+use Rattle.records.specs.declared.Config.{Config}
+use Rattle.records.specs.declared.Settings.{Settings}
+use Rattle.records.specs.declared.Temperature.{Temperature}
+use Rattle.records.specs.declared.Temperature.the-variants.{NoReading, Reading}
+use Rattle.records.specs.declared.Second.the-variants.{NoSecond}
+use Rattle.records.specs.declared.Moment.the-variants.{Never, Ms}
+use Rattle.records.specs.declared.Controller.{Controller}
+use Rattle.records.specs.declared.Readings.{Readings}
+use Rattle.records.specs.declared.Call.{Call}
+use Rattle.records.specs.declared.Call.the-variants.{WriteOccupiedHeatingSetpoint, WriteOccupiedCoolingSetpoint, WriteMaxCoolSetpointLimit, RaiseLowerSetpoint, OutOfBand}
+use Rattle.records.specs.declared.OutOfBandMessage.the-variants.{OccupiedCoolingSetpoint, SetpointLimits}
 
 abbrev pub at : ℕ → Hundredths
 at n = hundredths (pos n)

@@ -5,7 +5,7 @@ use mathlib.Core.List.{List, [], _∷_}
 use Prim.Native.Nat.{ℕ}
 use lib.Dec.{ltb}
 use Rattle.model.specs.Answers.{Outcome, quiet}
-use Rattle.model.specs.declared.Controller.{Controller}
+use Rattle.records.specs.declared.Controller.{Controller}
 
 -- a row of the table: its number, and whether its cause is there
 pub record Row : Type 0 where

@@ -2,17 +2,17 @@
 use mathlib.Core.Bool.{not, _&&_, cond}
 use mathlib.Core.List.{[]}
 use Rattle.units.specs.Units.{widened, plus, minus, greater, lesser, clamped}
-use Rattle.model.specs.Records.{withAttrs, setHeating, setCooling, setMinHeat, setMaxHeat, setMinCool, setMaxCool, setMode}
+use Rattle.records.specs.Records.{withAttrs, setHeating, setCooling, setMinHeat, setMaxHeat, setMinCool, setMaxCool, setMode}
 use Rattle.model.specs.Answers.{Outcome}
 use Rattle.model.specs.Orders.{orderOf, askSweep}
 use Rattle.model.specs.Served.{heats, cools, auto, hasHeatLimits, hasCoolLimits}
 use Rattle.model.specs.Units.{deadBand}
 use Rattle.model.specs.Limits.{clampHeatSetpoint, clampCoolSetpoint}
 use Rattle.model.specs.Modes.{isSupportedSystemMode}
-use Rattle.model.specs.declared.Config.{Config}
-use Rattle.model.specs.declared.Attrs.{Attrs}
-use Rattle.model.specs.declared.Moment.the-variants.{Never}
-use Rattle.model.specs.declared.Controller.{Controller}
+use Rattle.records.specs.declared.Config.{Config}
+use Rattle.records.specs.declared.Attrs.{Attrs}
+use Rattle.records.specs.declared.Moment.the-variants.{Never}
+use Rattle.records.specs.declared.Controller.{Controller}
 
 -- each served minimum to ABS
 unfoldable pub clampMinHeat : Config → Attrs → Attrs

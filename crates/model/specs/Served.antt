@@ -5,7 +5,7 @@ use Prim.Native.Nat.{ℕ, _/_, _%_, _^_}
 use lib.Bits.{bitAnd}
 use lib.Dec.{eqb}
 use Rattle.model.specs.Answers.{onlyIf}
-use Rattle.model.specs.declared.Config.{Config}
+use Rattle.records.specs.declared.Config.{Config}
 
 unfoldable pub supports : Config → ℕ → Bool
 supports cfg feature = not (eqb (bitAnd (cfg .features) feature) 0)

@@ -9,11 +9,11 @@ use Rattle.model.specs.Units.{deadBand}
 use Rattle.model.specs.Limits.{inHeatLimits, inCoolLimits}
 use Rattle.model.specs.Modes.{isSupportedSystemMode}
 use Rattle.model.specs.Validation.{accepted}
-use Rattle.model.specs.declared.Config.{Config}
-use Rattle.model.specs.declared.Settings.{Settings}
-use Rattle.model.specs.declared.Moment.{Moment}
-use Rattle.model.specs.declared.Moment.the-variants.{Never, Ms}
-use Rattle.model.specs.declared.Controller.{Controller}
+use Rattle.records.specs.declared.Config.{Config}
+use Rattle.records.specs.declared.Settings.{Settings}
+use Rattle.records.specs.declared.Moment.{Moment}
+use Rattle.records.specs.declared.Moment.the-variants.{Never, Ms}
+use Rattle.records.specs.declared.Controller.{Controller}
 
 -- the last clock to which 60,000 ms can still be added in 64 bits
 abbrev pub lastClock : ℕ

@@ -5,7 +5,7 @@ use Prim.Native.Nat.{ℕ, _+_}
 use lib.Dec.{eqb, ltb}
 use Rattle.units.specs.Units.{equal, saturatedDifference}
 use Rattle.units.specs.declared.Hundredths.{Hundredths}
-use Rattle.model.specs.Records.{firstSnapshot, withPending, withEvents, withChange, changedTo}
+use Rattle.records.specs.Records.{firstSnapshot, withPending, withEvents, withChange, changedTo}
 use Rattle.model.specs.Answers.{Outcome, Stage, onlyIf, quiet, andThen, unchanged}
 use Rattle.model.specs.Refusals.{Row, row, unless}
 use Rattle.model.specs.Served.{heats, cools, listed, emits, noticed}
@@ -14,23 +14,23 @@ use Rattle.model.specs.Temperature.{significant, eventDue, reportedTempe
 use Rattle.model.specs.Attribution.{manual, recorded, armedClock, withAttributed, servedSetpoints, claimSetpoints}
 use Rattle.model.specs.Sound.{lastClock, unsound}
 use Rattle.model.specs.Writes.{sourceNotices}
-use Rattle.model.specs.declared.Config.{Config}
-use Rattle.model.specs.declared.Temperature.{Temperature}
-use Rattle.model.specs.declared.Temperature.the-variants.{NoReading, Reading}
-use Rattle.model.specs.declared.Moment.{Moment}
-use Rattle.model.specs.declared.Moment.the-variants.{Never, Ms}
-use Rattle.model.specs.declared.Snapshot.{Snapshot}
-use Rattle.model.specs.declared.Shadow.{Shadow}
-use Rattle.model.specs.declared.Shadow.the-variants.{Unseeded, Seeded}
-use Rattle.model.specs.declared.EventState.{EventState}
-use Rattle.model.specs.declared.Attributed.{Attributed}
-use Rattle.model.specs.declared.Attributed.the-variants.{Unclaimed, Claimed}
-use Rattle.model.specs.declared.Order.the-variants.{NoOrder}
-use Rattle.model.specs.declared.Event.{Event}
-use Rattle.model.specs.declared.Event.the-variants.{SystemModeChange, LocalTemperatureChange, SetpointChange, RunningStateChange, RunningModeChange}
-use Rattle.model.specs.declared.NoticeRow.{NoticeRow}
-use Rattle.model.specs.declared.Controller.{Controller}
-use Rattle.model.specs.declared.Readings.{Readings}
+use Rattle.records.specs.declared.Config.{Config}
+use Rattle.records.specs.declared.Temperature.{Temperature}
+use Rattle.records.specs.declared.Temperature.the-variants.{NoReading, Reading}
+use Rattle.records.specs.declared.Moment.{Moment}
+use Rattle.records.specs.declared.Moment.the-variants.{Never, Ms}
+use Rattle.records.specs.declared.Snapshot.{Snapshot}
+use Rattle.records.specs.declared.Shadow.{Shadow}
+use Rattle.records.specs.declared.Shadow.the-variants.{Unseeded, Seeded}
+use Rattle.records.specs.declared.EventState.{EventState}
+use Rattle.records.specs.declared.Attributed.{Attributed}
+use Rattle.records.specs.declared.Attributed.the-variants.{Unclaimed, Claimed}
+use Rattle.records.specs.declared.Order.the-variants.{NoOrder}
+use Rattle.records.specs.declared.Event.{Event}
+use Rattle.records.specs.declared.Event.the-variants.{SystemModeChange, LocalTemperatureChange, SetpointChange, RunningStateChange, RunningModeChange}
+use Rattle.records.specs.declared.NoticeRow.{NoticeRow}
+use Rattle.records.specs.declared.Controller.{Controller}
+use Rattle.records.specs.declared.Readings.{Readings}
 
 -- the fixed notice table: bit and attribute code, ten rows
 abbrev pub noticeRow : ℕ → ℕ → NoticeRow

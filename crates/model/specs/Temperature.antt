@@ -5,11 +5,11 @@ use lib.Dec.{leb}
 use Rattle.units.specs.Units.{apart}
 use Rattle.units.specs.declared.Hundredths.{Hundredths}
 use Rattle.model.specs.Served.{hidesTemperature}
-use Rattle.model.specs.declared.Config.{Config}
-use Rattle.model.specs.declared.Temperature.{Temperature}
-use Rattle.model.specs.declared.Temperature.the-variants.{NoReading, Reading}
-use Rattle.model.specs.declared.Moment.{Moment}
-use Rattle.model.specs.declared.Moment.the-variants.{Never, Ms}
+use Rattle.records.specs.declared.Config.{Config}
+use Rattle.records.specs.declared.Temperature.{Temperature}
+use Rattle.records.specs.declared.Temperature.the-variants.{NoReading, Reading}
+use Rattle.records.specs.declared.Moment.{Moment}
+use Rattle.records.specs.declared.Moment.the-variants.{Never, Ms}
 
 -- the difference is at least the event delta, or one side alone is null
 abbrev pub significant : Temperature → Temperature → Hundredths → Bool

@@ -2,9 +2,9 @@
 use mathlib.Core.Bool.{cond}
 use Rattle.units.specs.Units.{inHundredths}
 use Rattle.units.specs.declared.Hundredths.{Hundredths}
-use Rattle.model.specs.Records.{zeroHundredths}
+use Rattle.records.specs.Records.{zeroHundredths}
 use Rattle.model.specs.Served.{auto}
-use Rattle.model.specs.declared.Config.{Config}
+use Rattle.records.specs.declared.Config.{Config}
 
 unfoldable pub deadBand : Config → Hundredths
 deadBand cfg = cond (auto cfg) (inHundredths (cfg .deadband)) zeroHundredths

@@ -5,12 +5,12 @@ use Prim.Native.Nat.{ℕ}
 use lib.Bits.{bitOr}
 use lib.Dec.{eqb}
 use Rattle.units.specs.Units.{less, minus, above, negative}
-use Rattle.model.specs.Records.{zeroHundredths}
+use Rattle.records.specs.Records.{zeroHundredths}
 use Rattle.model.specs.Refusals.{Row, row, firstFailing}
 use Rattle.model.specs.Served.{heats, cools, auto, hidesTemperature, tellsEvents, listed, serves, emits, hasHeatLimits, hasCoolLimits, someHeatLimit, someCoolLimit}
 use Rattle.model.specs.Units.{deadBand}
 use Rattle.model.specs.Modes.{sequenceHeats, sequenceCools}
-use Rattle.model.specs.declared.Config.{Config}
+use Rattle.records.specs.declared.Config.{Config}
 
 -- of two flags, one alone
 abbrev pub differ : Bool → Bool → Bool

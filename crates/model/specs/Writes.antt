@@ -6,7 +6,7 @@ use lib.Dec.{eqb, ltb}
 use Rattle.units.specs.Units.{plus, minus, above, below, within, widened, raised, saturatedDifference}
 use Rattle.units.specs.declared.Hundredths.{Hundredths}
 use Rattle.units.specs.declared.Tenths.{Tenths}
-use Rattle.model.specs.Records.{withAttrs, withChange, changedTo, setHeating, setCooling, setMinHeat, setMaxHeat, setMinCool, setMaxCool, setMode}
+use Rattle.records.specs.Records.{withAttrs, withChange, changedTo, setHeating, setCooling, setMinHeat, setMaxHeat, setMinCool, setMaxCool, setMode}
 use Rattle.model.specs.Answers.{Outcome, Stage, onlyIf, quiet, andThen, unchanged}
 use Rattle.model.specs.Refusals.{Row, row, unless}
 use Rattle.model.specs.Served.{heats, cools, auto, serves, noticed}
@@ -16,13 +16,13 @@ use Rattle.model.specs.Modes.{isSupportedSystemMode, runningState}
 use Rattle.model.specs.Attribution.{external, recorded, armedClock, claimSetpoints}
 use Rattle.model.specs.Orders.{orderOf, askSweep}
 use Rattle.model.specs.Sound.{unsound}
-use Rattle.model.specs.declared.Config.{Config}
-use Rattle.model.specs.declared.Settings.{Settings}
-use Rattle.model.specs.declared.Attrs.{Attrs}
-use Rattle.model.specs.declared.SetpointChangeState.{SetpointChangeState}
-use Rattle.model.specs.declared.Moment.the-variants.{Never}
-use Rattle.model.specs.declared.Controller.{Controller}
-use Rattle.model.specs.declared.Readings.{Readings}
+use Rattle.records.specs.declared.Config.{Config}
+use Rattle.records.specs.declared.Settings.{Settings}
+use Rattle.records.specs.declared.Attrs.{Attrs}
+use Rattle.records.specs.declared.SetpointChangeState.{SetpointChangeState}
+use Rattle.records.specs.declared.Moment.the-variants.{Never}
+use Rattle.records.specs.declared.Controller.{Controller}
+use Rattle.records.specs.declared.Readings.{Readings}
 
 -- 0x29 and 0x1E if the counted relays differ between the readings before and after
 unfoldable pub relayNotices : Config → Readings → List ℕ

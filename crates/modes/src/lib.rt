@@ -2,7 +2,7 @@
 ghost use mathlib.Core.Path.{_≡_};
 ghost use mathlib.Core.Bool.{cond};
 ghost use Rattle.model.specs.Modes.{sequenceHeats, sequenceCools, isSupportedSystemMode, relayMask, runningState, runningMode};
-use model::Config;
+use records::Config;
 
 pub fn sequence_heats(cfg: Config) -> bool
     ensures { λ r. ⌜ r ≡ sequenceHeats cfg ⌝ }

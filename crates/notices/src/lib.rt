@@ -3,10 +3,9 @@ ghost use mathlib.Core.Path.{_≡_};
 ghost use Rattle.model.specs.Answers.{pushAll, packed};
 ghost use Rattle.model.specs.Served.{listed};
 ghost use Rattle.model.specs.Sweep.{noticeTable, rowNotices, tableNotices};
-use model::Config;
-use model::NoticeRow;
-use model::Notices;
-use parts::answers;
+use records::Config;
+use records::NoticeRow;
+use records::Notices;
 
 // Pending bit to attribute code, in ascending order of the attributes; the two of the relays share a bit.
 pub const PENDING_ATTRS: [NoticeRow; 10] = [

@@ -2,12 +2,11 @@
 ghost use mathlib.Core.Path.{_≡_};
 ghost use Rattle.model.specs.Answers.{answer};
 ghost use Rattle.model.specs.Step.{opened};
-use model::Answer;
-use model::Attrs;
-use model::Config;
-use model::Controller;
-use model::Settings;
-use parts::orders;
+use records::Answer;
+use records::Attrs;
+use records::Config;
+use records::Controller;
+use records::Settings;
 
 // Validation, then repair of the given settings in a record otherwise blank.
 pub fn open(cfg: Config, settings: Settings) -> Answer

@@ -1,18 +1,15 @@
 // An answer as a line of output.
-mod lists;
-
 ghost use Rattle.text.specs.Pages.{Room, Within};
-use model::Answer;
-use model::Attributed;
-use model::Attrs;
-use model::Controller;
-use model::EventState;
-use model::Moment;
-use model::Order;
-use model::SetpointChangeState;
-use model::Settings;
-use model::Shadow;
-use model::Snapshot;
+use records::Answer;
+use records::Attributed;
+use records::Attrs;
+use records::Controller;
+use records::EventState;
+use records::Order;
+use records::SetpointChangeState;
+use records::Settings;
+use records::Shadow;
+use records::Snapshot;
 use text::Page;
 
 fn settings(page: &mut Page, at: usize, s: Settings) -> usize
@@ -147,36 +144,4 @@ pub fn answer(page: &mut Page, at: usize, a: Answer) -> usize
     let b = lists::notices(page, b, n);
     let e = a.events;
     lists::events(page, b, e)
-}
-
-// What a deadline query has besides.
-pub fn deadline(page: &mut Page, at: usize, m: Moment) -> usize
-    requires { ⌜ Room at 32 ⌝ }
-    ensures { λ r. ⌜ Within at 32 r ⌝ }
-{
-    text::moment(page, at, b" deadline=", m)
-}
-
-pub fn end_line(page: &mut Page, at: usize) -> usize
-    requires { ⌜ Room at 1 ⌝ }
-    ensures { λ r. ⌜ Within at 1 r ⌝ }
-{
-    text::text(page, at, b"\n")
-}
-
-// The line of a configuration or a record that was taken.
-pub fn taken(page: &mut Page, at: usize) -> usize
-    requires { ⌜ Room at 3 ⌝ }
-    ensures { λ r. ⌜ Within at 3 r ⌝ }
-{
-    text::text(page, at, b"ok\n")
-}
-
-// The line of a line that cannot be read, by its number.
-pub fn error(page: &mut Page, at: usize, line: u64) -> usize
-    requires { ⌜ Room at 33 ⌝ }
-    ensures { λ r. ⌜ Within at 33 r ⌝ }
-{
-    let a = text::number(page, at, b"error ", line);
-    text::text(page, a, b"\n")
 }

@@ -4,26 +4,24 @@ ghost use mathlib.Core.Bool.{_&&_};
 ghost use Rattle.model.specs.Answers.{answer};
 ghost use Rattle.model.specs.Served.{auto, hasHeatLimits};
 ghost use Rattle.model.specs.Repair as spec;
-use model::Answer;
-use model::Attrs;
-use model::Config;
-use model::Controller;
-use model::Events;
-use model::Moment;
-use model::Notices;
-use parts::orders;
-use parts::records;
+use records::Answer;
+use records::Attrs;
+use records::Config;
+use records::Controller;
+use records::Events;
+use records::Moment;
+use records::Notices;
 
 fn clamp_min_heat(cfg: Config, a: Attrs) -> Attrs
     ensures { λ r. ⌜ r ≡ spec.clampMinHeat cfg a ⌝ }
 {
     if served::has_heat_limits(cfg) {
-        let v = units::clamp(
+        let v = ranges::clamp(
             units::widen(a.settings.minheat),
             cfg.absminheat,
             cfg.absmaxheat,
         );
-        return records::set_min_heat(a, v);
+        return attrs::set_min_heat(a, v);
     }
     a
 }
@@ -32,12 +30,12 @@ fn clamp_max_heat(cfg: Config, a: Attrs) -> Attrs
     ensures { λ r. ⌜ r ≡ spec.clampMaxHeat cfg a ⌝ }
 {
     if served::has_heat_limits(cfg) {
-        let v = units::clamp(
+        let v = ranges::clamp(
             units::widen(a.settings.maxheat),
             a.settings.minheat,
             cfg.absmaxheat,
         );
-        return records::set_max_heat(a, v);
+        return attrs::set_max_heat(a, v);
     }
     a
 }
@@ -46,12 +44,12 @@ fn clamp_min_cool(cfg: Config, a: Attrs) -> Attrs
     ensures { λ r. ⌜ r ≡ spec.clampMinCool cfg a ⌝ }
 {
     if served::has_cool_limits(cfg) {
-        let v = units::clamp(
+        let v = ranges::clamp(
             units::widen(a.settings.mincool),
             cfg.absmincool,
             cfg.absmaxcool,
         );
-        return records::set_min_cool(a, v);
+        return attrs::set_min_cool(a, v);
     }
     a
 }
@@ -60,12 +58,12 @@ fn clamp_max_cool(cfg: Config, a: Attrs) -> Attrs
     ensures { λ r. ⌜ r ≡ spec.clampMaxCool cfg a ⌝ }
 {
     if served::has_cool_limits(cfg) {
-        let v = units::clamp(
+        let v = ranges::clamp(
             units::widen(a.settings.maxcool),
             a.settings.mincool,
             cfg.absmaxcool,
         );
-        return records::set_max_cool(a, v);
+        return attrs::set_max_cool(a, v);
     }
     a
 }
@@ -83,8 +81,8 @@ fn pull_min_heat(cfg: Config, a: Attrs) -> Attrs
 {
     if pulls_heat_limits(cfg) {
         let w = units::sub(a.settings.mincool, limits::dead_band(cfg));
-        let v = units::clamp(w, cfg.absminheat, a.settings.minheat);
-        return records::set_min_heat(a, v);
+        let v = ranges::clamp(w, cfg.absminheat, a.settings.minheat);
+        return attrs::set_min_heat(a, v);
     }
     a
 }
@@ -94,8 +92,8 @@ fn pull_max_heat(cfg: Config, a: Attrs) -> Attrs
 {
     if pulls_heat_limits(cfg) {
         let w = units::sub(a.settings.maxcool, limits::dead_band(cfg));
-        let v = units::clamp(w, a.settings.minheat, a.settings.maxheat);
-        return records::set_max_heat(a, v);
+        let v = ranges::clamp(w, a.settings.minheat, a.settings.maxheat);
+        return attrs::set_max_heat(a, v);
     }
     a
 }
@@ -105,7 +103,7 @@ fn clamp_heating(cfg: Config, a: Attrs) -> Attrs
 {
     if served::heats(cfg) {
         let v = limits::clamp_heat_setpoint(cfg, a.settings, units::widen(a.settings.heating));
-        return records::set_heating(a, v);
+        return attrs::set_heating(a, v);
     }
     a
 }
@@ -115,7 +113,7 @@ fn clamp_cooling(cfg: Config, a: Attrs) -> Attrs
 {
     if served::cools(cfg) {
         let v = limits::clamp_cool_setpoint(cfg, a.settings, units::widen(a.settings.cooling));
-        return records::set_cooling(a, v);
+        return attrs::set_cooling(a, v);
     }
     a
 }
@@ -125,9 +123,9 @@ fn push_cooling(cfg: Config, a: Attrs) -> Attrs
 {
     if served::auto(cfg) {
         let w = units::add(a.settings.heating, limits::dead_band(cfg));
-        let g = units::max(units::widen(a.settings.cooling), w);
+        let g = ranges::max(units::widen(a.settings.cooling), w);
         let v = limits::clamp_cool_setpoint(cfg, a.settings, g);
-        return records::set_cooling(a, v);
+        return attrs::set_cooling(a, v);
     }
     a
 }
@@ -137,9 +135,9 @@ fn push_heating(cfg: Config, a: Attrs) -> Attrs
 {
     if served::auto(cfg) {
         let w = units::sub(a.settings.cooling, limits::dead_band(cfg));
-        let l = units::min(units::widen(a.settings.heating), w);
+        let l = ranges::min(units::widen(a.settings.heating), w);
         let v = limits::clamp_heat_setpoint(cfg, a.settings, l);
-        return records::set_heating(a, v);
+        return attrs::set_heating(a, v);
     }
     a
 }
@@ -150,7 +148,7 @@ fn repair_mode(cfg: Config, a: Attrs) -> Attrs
     if modes::is_supported_system_mode(cfg, a.settings.mode) {
         return a;
     }
-    records::set_mode(a, 0)
+    attrs::set_mode(a, 0)
 }
 
 fn repair_limits(cfg: Config, a: Attrs) -> Attrs
@@ -179,7 +177,7 @@ pub fn repair_record(cfg: Config, r: Controller, a: Attrs) -> Answer
     ensures { λ q. ⌜ q ≡ answer (spec.repairedRecord cfg r a) ⌝ }
 {
     let b = repair(cfg, a);
-    let q = orders::ask_sweep(cfg, records::with_attrs(r, b));
+    let q = orders::ask_sweep(cfg, attrs::with_attrs(r, b));
     let o = orders::order_of(b.settings);
     let n = Notices::none();
     let e = Events::none();

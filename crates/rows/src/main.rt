@@ -1,6 +1,6 @@
 // Rows 1 to 21: document 01's plant with one thing wrong, and the answer of its opening.
-use model::Config;
-use model::Settings;
+use records::Config;
+use records::Settings;
 use units::Hundredths;
 use units::Tenths;
 

@@ -2,7 +2,7 @@
 ghost use mathlib.Core.Path.{_≡_};
 ghost use mathlib.Core.Bool.{_&&_, _||_};
 ghost use Rattle.model.specs.Served as spec;
-use model::Config;
+use records::Config;
 
 pub fn supports_feature(cfg: Config, feature: u32) -> bool
     ensures { λ r. ⌜ r ≡ spec.supports cfg feature ⌝ }

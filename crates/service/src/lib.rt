@@ -2,11 +2,11 @@
 ghost use mathlib.Core.Path.{_≡_};
 ghost use Rattle.model.specs.Answers.{answer};
 ghost use Rattle.model.specs.Step.{step};
-use model::Answer;
-use model::Call;
-use model::Config;
-use model::Controller;
-use model::Readings;
+use records::Answer;
+use records::Call;
+use records::Config;
+use records::Controller;
+use records::Readings;
 
 pub fn serve(c: &mut Controller, cfg: Config, d: Readings, k: Call) -> Answer
     ensures { λ q. ⌜ (q ≡ answer (step cfg (now (c .entry)) d k)) × (now (c .exit) ≡ answer (step cfg (now (c .entry)) d k) .rec) ⌝ }

@@ -2,13 +2,11 @@
 ghost use Prim.Native.Nat.{_≤_};
 ghost use lib.ListN.{length};
 ghost use mathlib.Core.Path.{_≡_};
-ghost use Rattle.sessions.specs.Sessions.{Sound, Placed};
+ghost use Rattle.session.specs.Sessions.{Sound, Placed};
 use crate::serve;
-use crate::session::Session;
+use session::Held;
+use session::Session;
 use text::Page;
-
-// A line of more bytes than this less one is too long, so no more of it is kept.
-pub type Held = [u8; 251];
 
 fn lesser(a: usize, b: usize) -> usize
     ensures { λ r. ⌜ (r ≤ a) × (r ≤ b) ⌝ }
@@ -75,7 +73,7 @@ fn read_some(s: Session, line: &mut Held, page: &mut Page) -> Session
         return s.reading_on(false);
     }
     let t = feed(s, &chunk[..n], line, page);
-    serve::flush(t, page)
+    session::flush(t, page)
 }
 
 // Nothing says that the input ends, so the turns are counted down from a number that no run uses up.
@@ -107,10 +105,10 @@ fn serve_rest(s: Session, line: &mut Held, page: &mut Page) -> Session
 }
 
 // The whole of standard input. Its last line may lack the newline.
-pub(crate) fn run(line: &mut Held, page: &mut Page) -> Session
+pub fn run(line: &mut Held, page: &mut Page) -> Session
     ensures { λ r. ⌜ Placed r 0 0 ⌝ }
 {
     let s = read_all(Session::new(), line, page);
     let s = serve_rest(s, line, page);
-    serve::flush(s, page)
+    session::flush(s, page)
 }

@@ -1,10 +1,9 @@
 // The console's session: lines of text from standard input, an answer a line to standard output.
 mod feed;
 mod serve;
-mod session;
 
-pub use session::Session;
-ghost use Rattle.sessions.specs.Sessions.{Placed};
+ghost use Rattle.session.specs.Sessions.{Placed};
+use session::Session;
 
 // At the end no part of a line is left unserved, and no part of an answer unwritten.
 pub fn run() -> Session

@@ -2,12 +2,11 @@
 ghost use mathlib.Core.Path.{_≡_};
 ghost use Rattle.model.specs.Answers.{answer};
 ghost use Rattle.model.specs.Writes as spec;
-use model::Answer;
-use model::Config;
-use model::Controller;
-use model::Notices;
-use model::Readings;
-use parts::orders;
+use records::Answer;
+use records::Config;
+use records::Controller;
+use records::Notices;
+use records::Readings;
 use units::Hundredths;
 
 pub fn write_occupied_heating_setpoint(

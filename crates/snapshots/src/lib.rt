@@ -1,11 +1,11 @@
 // model/specs/Sweep: the snapshot, what the events report.
 ghost use mathlib.Core.Path.{_≡_};
 ghost use Rattle.model.specs.Sweep as spec;
-use model::Config;
-use model::Controller;
-use model::Readings;
-use model::Snapshot;
-use model::Temperature;
+use records::Config;
+use records::Controller;
+use records::Readings;
+use records::Snapshot;
+use records::Temperature;
 
 // What the events report, now.
 pub fn snapshot(cfg: Config, d: Readings, r: Controller) -> Snapshot

@@ -1,17 +1,17 @@
 // model/specs/Sound: row 28, what every record has that an opening or a call leaves.
 ghost use mathlib.Core.Path.{_≡_};
 ghost use Rattle.model.specs.Sound as spec;
-use model::Config;
-use model::Controller;
-use model::Moment;
-use model::Settings;
+use records::Config;
+use records::Controller;
+use records::Moment;
+use records::Settings;
 
 fn sound_heat_limits(cfg: Config, s: Settings) -> bool
     ensures { λ r. ⌜ r ≡ spec.soundHeatLimits cfg s ⌝ }
 {
     let limits = served::has_heat_limits(cfg);
-    let low = units::is_within(s.minheat, cfg.absminheat, s.maxheat);
-    let high = units::is_within(s.maxheat, s.minheat, cfg.absmaxheat);
+    let low = ranges::is_within(s.minheat, cfg.absminheat, s.maxheat);
+    let high = ranges::is_within(s.maxheat, s.minheat, cfg.absmaxheat);
     !limits | (low & high)
 }
 
@@ -19,8 +19,8 @@ fn sound_cool_limits(cfg: Config, s: Settings) -> bool
     ensures { λ r. ⌜ r ≡ spec.soundCoolLimits cfg s ⌝ }
 {
     let limits = served::has_cool_limits(cfg);
-    let low = units::is_within(s.mincool, cfg.absmincool, s.maxcool);
-    let high = units::is_within(s.maxcool, s.mincool, cfg.absmaxcool);
+    let low = ranges::is_within(s.mincool, cfg.absmincool, s.maxcool);
+    let high = ranges::is_within(s.maxcool, s.mincool, cfg.absmaxcool);
     !limits | (low & high)
 }
 

@@ -1,15 +1,15 @@
 -- A stage of the definitions, as the code holds it: its notices pushed onto those before it.
 use Prim.Native.Nat.{ℕ}
-use Rattle.model.specs.Records.{noNotices, noEvents}
+use Rattle.records.specs.Records.{noNotices, noEvents}
 use Rattle.model.specs.Answers.{Stage as ModelStage, pushAll}
 use Rattle.model.specs.Orders.{orderOf, askSweep}
 use Rattle.model.specs.Writes.{relayNotices}
 use Rattle.model.specs.Messages.{raiseBits}
-use Rattle.model.specs.declared.Config.{Config}
-use Rattle.model.specs.declared.Moment.the-variants.{Never}
-use Rattle.model.specs.declared.Notices.{Notices}
-use Rattle.model.specs.declared.Answer.{Answer}
-use Rattle.model.specs.declared.Readings.{Readings}
+use Rattle.records.specs.declared.Config.{Config}
+use Rattle.records.specs.declared.Moment.the-variants.{Never}
+use Rattle.records.specs.declared.Notices.{Notices}
+use Rattle.records.specs.declared.Answer.{Answer}
+use Rattle.records.specs.declared.Readings.{Readings}
 use Rattle.stages.specs.declared.Stage.{Stage}
 
 abbrev pub staged : Notices → ModelStage → Stage

@@ -8,15 +8,13 @@ ghost use Rattle.model.specs.Served.{noticed};
 ghost use Rattle.model.specs.Modes.{runningState};
 ghost use Rattle.model.specs.Writes as spec;
 ghost use Rattle.stages.specs.Stages.{ordered};
-use model::Answer;
-use model::Config;
-use model::Controller;
-use model::Events;
-use model::Moment;
-use model::Notices;
-use model::Readings;
-use parts::answers;
-use parts::orders;
+use records::Answer;
+use records::Config;
+use records::Controller;
+use records::Events;
+use records::Moment;
+use records::Notices;
+use records::Readings;
 
 // A record under way, with the notices so far.
 pub struct Stage {

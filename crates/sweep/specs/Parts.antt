@@ -1,7 +1,7 @@
 -- An answer under way, as the code holds it.
 use Rattle.model.specs.Answers.{Outcome, pushAll, packedEvents}
-use Rattle.model.specs.declared.Notices.{Notices}
-use Rattle.model.specs.declared.Answer.{Answer}
+use Rattle.records.specs.declared.Notices.{Notices}
+use Rattle.records.specs.declared.Answer.{Answer}
 
 -- the answer of an outcome whose notices come after others
 abbrev pub sweptWith : Notices → Outcome → Answer

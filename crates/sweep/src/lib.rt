@@ -1,22 +1,20 @@
 // model/specs/Sweep: the sweep.
 ghost use mathlib.Core.Path.{_≡_};
 ghost use mathlib.Core.List.{[]};
-ghost use Rattle.model.specs.Records.{noEvents};
+ghost use Rattle.records.specs.Records.{noEvents};
 ghost use Rattle.model.specs.Answers.{answer};
-ghost use Rattle.model.specs.declared.Moment.the-variants.{Never};
-ghost use Rattle.model.specs.declared.Order.the-variants.{NoOrder};
+ghost use Rattle.records.specs.declared.Moment.the-variants.{Never};
+ghost use Rattle.records.specs.declared.Order.the-variants.{NoOrder};
 ghost use Rattle.model.specs.Sweep as spec;
 ghost use Rattle.sweep.specs.Parts.{sweptWith};
-use model::Answer;
-use model::Config;
-use model::Controller;
-use model::Events;
-use model::Moment;
-use model::Notices;
-use model::Order;
-use model::Readings;
-use parts::orders;
-use parts::records;
+use records::Answer;
+use records::Config;
+use records::Controller;
+use records::Events;
+use records::Moment;
+use records::Notices;
+use records::Order;
+use records::Readings;
 
 fn sweep_events(cfg: Config, d: Readings, n: Notices, r: Controller) -> Answer
     ensures { λ q. ⌜ q ≡ sweptWith n (spec.sweepEvents cfg d [] r) ⌝ }
@@ -50,7 +48,7 @@ fn sweep_pending(cfg: Config, d: Readings, r: Controller) -> Answer
         return orders::quiet_answer(0, r);
     }
     let n = notices::notify_pending(cfg, r.pending);
-    let q = records::with_pending(r, 0);
+    let q = attrs::with_pending(r, 0);
     if notices::is_pending(r.pending, 9) {
         return sweep_events(cfg, d, n, q);
     }

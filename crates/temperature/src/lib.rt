@@ -2,10 +2,10 @@
 ghost use mathlib.Core.Path.{_≡_};
 ghost use Prim.Native.Nat.{_-_};
 ghost use Rattle.model.specs.Temperature.{significant, intervalOver, eventDue, reportedTemperature};
-use model::Config;
-use model::Controller;
-use model::Moment;
-use model::Temperature;
+use records::Config;
+use records::Controller;
+use records::Moment;
+use records::Temperature;
 use units::Hundredths;
 
 pub fn local_temperature_change_significant(
@@ -22,7 +22,7 @@ pub fn local_temperature_change_significant(
         },
         Temperature::Reading(a) => match current {
             Temperature::NoReading => true,
-            Temperature::Reading(b) => units::are_apart(a, b, delta),
+            Temperature::Reading(b) => ranges::are_apart(a, b, delta),
         },
     }
 }

@@ -1,13 +1,13 @@
 // Document 01, One plant, ten calls: prints call, answer, heating, cooling.
-use model::Answer;
-use model::Call;
-use model::Config;
-use model::Controller;
-use model::OutOfBandMessage;
-use model::Readings;
-use model::Second;
-use model::Settings;
-use model::Temperature;
+use records::Answer;
+use records::Call;
+use records::Config;
+use records::Controller;
+use records::OutOfBandMessage;
+use records::Readings;
+use records::Second;
+use records::Settings;
+use records::Temperature;
 use units::Hundredths;
 use units::Tenths;
 

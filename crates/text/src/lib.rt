@@ -5,10 +5,10 @@ ghost use Prim.Native.Nat.{_+_, _≤_};
 ghost use mathlib.Core.Path.{_≡_};
 ghost use lib.ListN.{length};
 ghost use Rattle.text.specs.Pages.{Room, Within};
-use model::Amount;
-use model::Moment;
-use model::Second;
-use model::Temperature;
+use records::Amount;
+use records::Moment;
+use records::Second;
+use records::Temperature;
 use units::Hundredths;
 
 // Of output, as much as is written at a time.

@@ -2,12 +2,11 @@
 ghost use mathlib.Core.Path.{_≡_};
 ghost use Rattle.model.specs.Answers.{answer};
 ghost use Rattle.model.specs.Sweep as spec;
-use model::Answer;
-use model::Config;
-use model::Controller;
-use model::Notices;
-use model::Readings;
-use parts::orders;
+use records::Answer;
+use records::Config;
+use records::Controller;
+use records::Notices;
+use records::Readings;
 
 // Events only; it leaves pending alone.
 pub fn timer(cfg: Config, r: Controller, d: Readings) -> Answer

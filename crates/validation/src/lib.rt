@@ -3,7 +3,7 @@ ghost use mathlib.Core.Path.{_≡_};
 ghost use mathlib.Core.Bool.{cond};
 ghost use Rattle.model.specs.Refusals.{thenRows};
 ghost use Rattle.model.specs.Validation.{differ as differOf, featureRows, attributeRow, attributeRows, limitRows, eventRow, eventRows, numberRows, validated};
-use model::Config;
+use records::Config;
 use units::Hundredths;
 
 fn row(n: u8, cause: bool, rest: u8) -> u8

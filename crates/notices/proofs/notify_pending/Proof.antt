@@ -9,9 +9,9 @@ use lib.Seq.{drop-cons}
 use borrow.Author.Needs.{needs}
 use Rattle.model.specs.Answers.{pushAll, packed}
 use Rattle.model.specs.Sweep.{noticeRow, noticeTable, rowNotices, tableNotices}
-use Rattle.model.specs.declared.Config.{Config}
-use Rattle.model.specs.declared.NoticeRow.{NoticeRow}
-use Rattle.model.specs.declared.Notices.{Notices}
+use Rattle.records.specs.declared.Config.{Config}
+use Rattle.records.specs.declared.NoticeRow.{NoticeRow}
+use Rattle.records.specs.declared.Notices.{Notices}
 use Rattle.model.proofs.Packing.{push-none, push-all-append}
 use Rattle.notices.proofs.notify_pending.Statement.{statement}
 use Rattle.notices.proofs.notify_pending.Tie as tie

@@ -38,21 +38,21 @@ use denote.Exit.{yes}
 use denote.Triple.Clauses.{ensured, lasts}
 use Rattle.model.specs.Answers.{answer}
 use Rattle.model.specs.Step.{step as stepOf}
-use Rattle.model.specs.declared.Controller.{Controller}
-use Rattle.model.specs.declared.Answer.{Answer}
-use Rattle.model.specs.declared.Config.{Config}
-use Rattle.model.specs.declared.Readings.{Readings}
-use Rattle.model.specs.declared.Call.{Call}
-use Rattle.model.proofs.Controller as Rec
-use Rattle.model.proofs.Controller.Laws as Rec′
-use Rattle.model.proofs.Answer as Ans
-use Rattle.model.proofs.Answer.Laws as Ans′
-use Rattle.model.proofs.Config as Cfg
-use Rattle.model.proofs.Config.Laws as Cfg′
-use Rattle.model.proofs.Readings as Rds
-use Rattle.model.proofs.Readings.Laws as Rds′
-use Rattle.model.proofs.Call as Cal
-use Rattle.model.proofs.Call.Laws as Cal′
+use Rattle.records.specs.declared.Controller.{Controller}
+use Rattle.records.specs.declared.Answer.{Answer}
+use Rattle.records.specs.declared.Config.{Config}
+use Rattle.records.specs.declared.Readings.{Readings}
+use Rattle.records.specs.declared.Call.{Call}
+use Rattle.records.proofs.Controller as Rec
+use Rattle.records.proofs.Controller.Laws as Rec′
+use Rattle.records.proofs.Answer as Ans
+use Rattle.records.proofs.Answer.Laws as Ans′
+use Rattle.records.proofs.Config as Cfg
+use Rattle.records.proofs.Config.Laws as Cfg′
+use Rattle.records.proofs.Readings as Rds
+use Rattle.records.proofs.Readings.Laws as Rds′
+use Rattle.records.proofs.Call as Cal
+use Rattle.records.proofs.Call.Laws as Cal′
 use Rattle.controller.proofs.step as step
 use Rattle.controller.proofs.step.Symbol as step-def
 use Rattle.controller.proofs.step.Symbol.{name as #controller·step}

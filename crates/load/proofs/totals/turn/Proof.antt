@@ -2,8 +2,8 @@ use mathlib.Core.Path.{_∙_, ap, ap₂}
 use Rattle.model.specs.Answers.{answer}
 use Rattle.model.specs.Plant.{plant, noReadings}
 use Rattle.model.specs.Step.{step}
-use Rattle.model.specs.declared.Config.{Config}
-use Rattle.model.specs.declared.Readings.{Readings}
+use Rattle.records.specs.declared.Config.{Config}
+use Rattle.records.specs.declared.Readings.{Readings}
 use Rattle.load.specs.Totals.{counted, turned}
 use Rattle.load.specs.declared.draws.Drawn.{Drawn}
 use Rattle.load.proofs.Bounds.{notices-most, events-most}

@@ -1,6 +1,6 @@
 -- `sessions::serve::open` meets its contract. Assumes nothing.
 use mathlib.Core.Path.{_∙_, ap}
-use Rattle.model.specs.declared.Answer.{Answer}
+use Rattle.records.specs.declared.Answer.{Answer}
 use lib.Dec.{lit≤}
 use Rattle.sessions.proofs.Room.{for-answer, for-more, within}
 use Rattle.sessions.proofs.serve.open.Statement.{statement}

@@ -1,0 +1,58 @@
+// model/specs/Sweep: which changes since the snapshot are told.
+ghost use mathlib.Core.Path.{_≡_};
+ghost use Rattle.model.specs.Sweep as spec;
+use records::Config;
+use records::Moment;
+use records::Snapshot;
+
+pub fn tells_mode(cfg: Config, old: Snapshot, new: Snapshot) -> bool
+    ensures { λ r. ⌜ r ≡ spec.tellsMode cfg old new ⌝ }
+{
+    let emits = served::emits(cfg, 0);
+    let same = old.mode == new.mode;
+    emits & !same
+}
+
+pub fn tells_temperature(cfg: Config, old: Snapshot, new: Snapshot, last: Moment, now: u64) -> bool
+    ensures { λ r. ⌜ r ≡ spec.tellsTemperature cfg old new last now ⌝ }
+{
+    let emits = served::emits(cfg, 1);
+    let s = old.temperature;
+    let t = new.temperature;
+    let due = temperature::local_temperature_event_due(s, t, cfg.delta, last, now);
+    emits & due
+}
+
+pub fn tells_cooling(cfg: Config, old: Snapshot, new: Snapshot) -> bool
+    ensures { λ r. ⌜ r ≡ spec.tellsCooling cfg old new ⌝ }
+{
+    let emits = served::emits(cfg, 3);
+    let cools = served::cools(cfg);
+    let same = units::same(old.cooling, new.cooling);
+    emits & (cools & !same)
+}
+
+pub fn tells_heating(cfg: Config, old: Snapshot, new: Snapshot) -> bool
+    ensures { λ r. ⌜ r ≡ spec.tellsHeating cfg old new ⌝ }
+{
+    let emits = served::emits(cfg, 3);
+    let heats = served::heats(cfg);
+    let same = units::same(old.heating, new.heating);
+    emits & (heats & !same)
+}
+
+pub fn tells_relays(cfg: Config, old: Snapshot, new: Snapshot) -> bool
+    ensures { λ r. ⌜ r ≡ spec.tellsRelays cfg old new ⌝ }
+{
+    let emits = served::emits(cfg, 4);
+    let same = old.relays == new.relays;
+    emits & !same
+}
+
+pub fn tells_running_mode(cfg: Config, old: Snapshot, new: Snapshot) -> bool
+    ensures { λ r. ⌜ r ≡ spec.tellsRunningMode cfg old new ⌝ }
+{
+    let emits = served::emits(cfg, 5);
+    let same = old.runningmode == new.runningmode;
+    emits & !same
+}

@@ -1,0 +1,52 @@
+// model/specs/Messages: the message of the four limits.
+ghost use mathlib.Core.Path.{_≡_};
+ghost use Rattle.model.specs.Answers.{answer};
+ghost use Rattle.model.specs.Messages as spec;
+ghost use Rattle.stages.specs.Stages.{withBits};
+use records::Answer;
+use records::Attrs;
+use records::Config;
+use records::Controller;
+use units::Hundredths;
+
+const PENDING_LIMITS: u16 = 0x0F0;
+
+fn with_bits(o: Answer, bits: u16) -> Answer
+    ensures { λ q. ⌜ q ≡ withBits o bits ⌝ }
+{
+    let mut p = o;
+    p.rec = setpoint_messages::raise_bits(o.rec, bits);
+    p
+}
+
+fn take_limits(
+    cfg: Config,
+    a: Attrs,
+    minh: Hundredths,
+    maxh: Hundredths,
+    minc: Hundredths,
+    maxc: Hundredths,
+) -> Attrs
+    ensures { λ r. ⌜ r ≡ spec.limitsTaken cfg a minh maxh minc maxc ⌝ }
+{
+    let w = ranges::clamp(units::widen(minh), cfg.absminheat, cfg.absmaxheat);
+    let x = ranges::clamp(units::widen(maxh), cfg.absminheat, cfg.absmaxheat);
+    let y = ranges::clamp(units::widen(minc), cfg.absmincool, cfg.absmaxcool);
+    let z = ranges::clamp(units::widen(maxc), cfg.absmincool, cfg.absmaxcool);
+    attrs::set_limits(a, w, x, y, z)
+}
+
+// The new limits may cut across the setpoints, so the settings are repaired.
+pub fn limits_message(
+    cfg: Config,
+    r: Controller,
+    minh: Hundredths,
+    maxh: Hundredths,
+    minc: Hundredths,
+    maxc: Hundredths,
+) -> Answer
+    ensures { λ q. ⌜ q ≡ answer (spec.limitsMessage cfg r minh maxh minc maxc) ⌝ }
+{
+    let a = take_limits(cfg, r.attrs, minh, maxh, minc, maxc);
+    with_bits(repair::repair_record(cfg, r, a), PENDING_LIMITS)
+}

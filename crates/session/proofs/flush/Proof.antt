@@ -1,0 +1,17 @@
+-- `sessions::serve::flush` meets its contract. Assumes nothing.
+use mathlib.Core.Path.{_∙_}
+use borrow.Author.Needs.{needs}
+use Rattle.session.proofs.flush.Statement.{statement}
+use Rattle.session.proofs.flush.Tie as tie
+
+write-front-requires : tie.Need-write-front-requires
+write-front-requires c κs = search needs
+
+returns : tie.Need-returns
+returns c =
+    let g = c .reading-on .ensures in
+    let f = c .before .filled-to .ensures in
+    ((g .0 .0 ∙ f .0 .0, g .0 .1 ∙ f .0 .1), (g .1 .0 ∙ f .1 .0, g .1 .1 ∙ f .1 .1))
+
+pub flush-spec : {M : Type 1} → statement M
+flush-spec = tie.close (tie.spec write-front-requires (λ c κs. tt) (λ c κs. tt) returns)

@@ -1,0 +1,19 @@
+use mathlib.Core.Path.{_∙_, sym, ap}
+use mathlib.Core.Bool.{not}
+use Rattle.model.specs.Messages.{modeMessage}
+use Rattle.model.specs.Refusals.{unless}
+use Rattle.setpoint_messages.proofs.mode_message.Statement.{statement}
+use Rattle.setpoint_messages.proofs.mode_message.Tie as tie
+
+pub mode-message-spec : {M : Type 1} → statement M
+unfolding modeMessage unless
+mode-message-spec =
+    tie.close
+    (tie.spec
+    (λ c κs. tt)
+    (λ c κs. tt)
+    (λ c. simp (c .quiet-answer .ensures, ap not (sym (c .before .before .is-supported-system-mode .ensures)) ∙ c .before .if1 .taken))
+    (λ c κs. tt)
+    (λ c κs. tt)
+    (λ c κs. tt)
+    (λ c. simp (c .plain-message .ensures, c .before .with-attrs .ensures, c .before .before .set-mode .ensures, ap not (sym (c .before .before .before .before .is-supported-system-mode .ensures)) ∙ c .before .before .before .if1 .left)))

@@ -1,0 +1,58 @@
+// model/specs/Messages: messages that store a setpoint, a mode or nothing, and the pending bits that each sets.
+ghost use mathlib.Core.Path.{_≡_};
+ghost use Rattle.model.specs.Answers.{answer, quiet};
+ghost use Rattle.model.specs.Messages as spec;
+use records::Answer;
+use records::Config;
+use records::Controller;
+use units::Hundredths;
+
+const PENDING_OCCUPIED_HEATING_SETPOINT: u16 = 0x002;
+
+const PENDING_OCCUPIED_COOLING_SETPOINT: u16 = 0x004;
+
+const PENDING_SYSTEM_MODE: u16 = 0x008;
+
+const PENDING_EVENT_SWEEP: u16 = 0x200;
+
+// Every accepted message asks for a sweep too.
+pub fn raise_bits(r: Controller, bits: u16) -> Controller
+    ensures { λ q. ⌜ q ≡ spec.raiseBits r bits ⌝ }
+{
+    let mut q = r;
+    q.pending = r.pending | (bits | PENDING_EVENT_SWEEP);
+    q
+}
+
+// A message that stores nothing.
+pub fn plain_message(r: Controller, bits: u16) -> Answer
+    ensures { λ q. ⌜ q ≡ answer (quiet 0 (spec.raiseBits r bits)) ⌝ }
+{
+    orders::quiet_answer(0, raise_bits(r, bits))
+}
+
+pub fn heating_message(cfg: Config, r: Controller, v: Hundredths) -> Answer
+    ensures { λ q. ⌜ q ≡ answer (spec.heatingMessage cfg r v) ⌝ }
+{
+    let w = limits::clamp_heat_setpoint(cfg, r.attrs.settings, units::widen(v));
+    let q = attrs::with_attrs(r, attrs::set_heating(r.attrs, w));
+    plain_message(q, PENDING_OCCUPIED_HEATING_SETPOINT)
+}
+
+pub fn cooling_message(cfg: Config, r: Controller, v: Hundredths) -> Answer
+    ensures { λ q. ⌜ q ≡ answer (spec.coolingMessage cfg r v) ⌝ }
+{
+    let w = limits::clamp_cool_setpoint(cfg, r.attrs.settings, units::widen(v));
+    let q = attrs::with_attrs(r, attrs::set_cooling(r.attrs, w));
+    plain_message(q, PENDING_OCCUPIED_COOLING_SETPOINT)
+}
+
+pub fn mode_message(cfg: Config, r: Controller, v: u8) -> Answer
+    ensures { λ q. ⌜ q ≡ answer (spec.modeMessage cfg r v) ⌝ }
+{
+    if !modes::is_supported_system_mode(cfg, v) {
+        return orders::quiet_answer(26, r);
+    }
+    let q = attrs::with_attrs(r, attrs::set_mode(r.attrs, v));
+    plain_message(q, PENDING_SYSTEM_MODE)
+}
