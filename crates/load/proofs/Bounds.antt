@@ -1,15 +1,14 @@
 -- How far the totals grow: no answer has more than 13 notices and 6 events.
-use Prim.Native.Nat.{ℕ, zero, suc, _+_, _*_, _≤_, _<_}
+use Prim.Native.Nat.{ℕ, zero, suc, _*_, _≤_}
 use native.Mathlib.Omega.{arith}
-use mathlib.Core.Bool.{Bool, true, false, not, _&&_, cond}
+use mathlib.Core.Bool.{Bool, true, false, not, _&&_}
 use mathlib.Core.List.{List, [], _∷_}
 use lib.Dec.{ltb, eqb}
 use borrow.Author.Tests.{ltb-true}
 use Rattle.records.specs.Records.{noNotices, noEvents}
-use Rattle.model.specs.Answers.{foldLeft, push, pushAll, packed, emit, emitAll, packedEvents, answer}
+use Rattle.model.specs.Answers.{foldLeft, push, pushAll, packed, emit, emitAll, packedEvents}
 use Rattle.model.specs.Plant.{plant, noReadings}
 use Rattle.model.specs.Step.{step}
-use Rattle.records.specs.declared.Answer.{Answer}
 use Rattle.records.specs.declared.Event.{Event}
 use Rattle.records.specs.declared.Notices.{Notices}
 use Rattle.records.specs.declared.Events.{Events}

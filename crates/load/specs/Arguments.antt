@@ -1,5 +1,5 @@
 -- What an argument reads as.
-use Prim.Native.Nat.{ℕ, _<_}
+use Prim.Native.Nat.{_<_}
 use Rattle.load.specs.declared.arguments.Read.{Read}
 use Rattle.load.specs.declared.arguments.Read.the-variants.{Bad, Is}
 

@@ -1,6 +1,6 @@
 -- The load: calls on one record, a sweep after every 16, and what their answers sum up to.
-use mathlib.Core.Bool.{Bool, true, false, not, _&&_, cond}
-use Prim.Native.Nat.{ℕ, zero, suc, _+_, _*_, _/_, _%_, _≤_}
+use mathlib.Core.Bool.{Bool, not, _&&_, cond}
+use Prim.Native.Nat.{ℕ, zero, suc, _+_, _/_, _%_, _≤_}
 use lib.Dec.{eqb}
 use Rattle.model.specs.Answers.{answer}
 use Rattle.model.specs.Plant.{plant, plantSettings, noReadings}

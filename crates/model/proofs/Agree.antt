@@ -1,44 +1,30 @@
 -- Two controllers that get the same calls: equal limits, modes and setpoints travel along the list, each by itself.
 use mathlib.Core.Path.{_≡_, refl, sym, _∙_, ap, subst}
-use mathlib.Core.Bool.{Bool, true, false, not, _&&_, _||_, cond}
-use mathlib.Core.List.{List, [], _∷_, _++_, append-assoc}
+use mathlib.Core.Bool.{Bool, true, false, not, _&&_, cond}
+use mathlib.Core.List.{List, [], _∷_}
 use Prim.Native.Nat.{ℕ}
-use lib.Dec.{eqb, ltb}
-use borrow.Author.Tests.{not-false, not-true}
-use Rattle.units.specs.Units.{plus, minus, above, below, within, widened, greater, lesser, clamped, raised, equal}
+use lib.Dec.{eqb}
+use borrow.Author.Tests.{not-false}
+use Rattle.units.specs.Units.{widened, raised}
 use Rattle.units.specs.declared.Hundredths.{Hundredths}
 use Rattle.units.specs.declared.Tenths.{Tenths}
-use Rattle.records.specs.Records.{withAttrs, withPending, setHeating, setCooling, setMinHeat, setMaxHeat, setMinCool, setMaxCool, setMode}
-use Rattle.model.specs.Answers.{Outcome, Stage, quiet, andThen, unchanged}
-use Rattle.model.specs.Refusals.{Row, row, unless, Clear, numbered}
-use Rattle.model.specs.Served.{heats, cools, auto, serves, listed, hasHeatLimits, hasCoolLimits}
-use Rattle.model.specs.Units.{deadBand}
+use Rattle.records.specs.Records.{setHeating, setCooling, setMode}
+use Rattle.model.specs.Answers.{Outcome, Stage, quiet, unchanged}
+use Rattle.model.specs.Refusals.{Row, unless, Clear}
+use Rattle.model.specs.Served.{heats, cools, auto, hasHeatLimits, hasCoolLimits}
 use Rattle.model.specs.Limits.{minHeatSetpoint, maxHeatSetpoint, minCoolSetpoint, maxCoolSetpoint, inHeatLimits, inCoolLimits, clampHeatSetpoint, clampCoolSetpoint}
 use Rattle.model.specs.Modes.{isSupportedSystemMode}
-use Rattle.model.specs.Attribution.{external, armedClock, claimSetpoints}
-use Rattle.model.specs.Validation.{accepted}
+use Rattle.model.specs.Attribution.{external, claimSetpoints}
 use Rattle.model.specs.Repair.{clampMinHeat, clampMaxHeat, clampMinCool, clampMaxCool, pullMinHeat, pullMaxHeat, clampHeating, clampCooling, pushCooling, pushHeating, repairMode, repairLimits, repairSetpoints, repaired}
-use Rattle.model.specs.Sound.{sound, unsound, lastClock}
-use Rattle.model.specs.Orders.{askSweep}
-use Rattle.model.specs.Writes.{minHeatRows, maxHeatRows, minCoolRows, maxCoolRows, unserved, applied, namesAbsentSide, tooNearCooling, tooNearHeating, coolingBeside, heatingBeside, storeHeatingSetpoint, storeCoolingSetpoint, pullHeating, pullCooling, limitStored, raiseHeating, raiseCooling, raiseBoth, raiseSides, writeOccupiedHeatingSetpoint, writeOccupiedCoolingSetpoint, writeMinHeatSetpointLimit, writeMaxHeatSetpointLimit, writeMinCoolSetpointLimit, writeMaxCoolSetpointLimit, writeSystemMode, setControlSequenceOfOperation, raiseLowerSetpoint, armClock}
-use Rattle.model.specs.Messages.{messageTaken, heatingMessage, coolingMessage, modeMessage, limitsMessage, limitsTaken, outOfBandMessage}
-use Rattle.model.specs.Sweep.{late, takeEvents, swept, sweep, timer, started, seedEvents, deadline}
-use Rattle.model.specs.Step.{opened, step}
+use Rattle.model.specs.Writes.{namesAbsentSide, tooNearCooling, tooNearHeating, coolingBeside, heatingBeside, storeHeatingSetpoint, storeCoolingSetpoint, pullHeating, pullCooling, raiseHeating, raiseCooling, raiseBoth, raiseSides}
 use Rattle.records.specs.declared.Config.{Config}
 use Rattle.records.specs.declared.Settings.{Settings}
 use Rattle.records.specs.declared.Attrs.{Attrs}
 use Rattle.records.specs.declared.Controller.{Controller}
 use Rattle.records.specs.declared.Readings.{Readings}
-use Rattle.records.specs.declared.OutOfBandMessage.{OutOfBandMessage}
-use Rattle.records.specs.declared.OutOfBandMessage.the-variants.{LocalTemperature, RunningState, Update, OccupiedHeatingSetpoint, OccupiedCoolingSetpoint, SystemMode, SetpointLimits}
-use Rattle.records.specs.declared.Call.{Call}
-use Rattle.records.specs.declared.Call.the-variants.{WriteOccupiedHeatingSetpoint, WriteOccupiedCoolingSetpoint, WriteMinHeatSetpointLimit, WriteMaxHeatSetpointLimit, WriteMinCoolSetpointLimit, WriteMaxCoolSetpointLimit, WriteSystemMode, SetControlSequenceOfOperation, RaiseLowerSetpoint, ArmClock, OutOfBand, SeedEvents, Sweep, Timer, Deadline}
-use Rattle.model.specs.Claims.{Entry, entry, after, number, run, numbers, AllAccepted, EqualLimits, EqualSetpoints, Agree, limitsEntry, Adjacent, LimitsThenWrites, ModeWritten, Agreement, LimitsAgree, ModesAgree, SetpointsAgree}
-use Rattle.model.proofs.Logic.{by-cond, by-unless, clash, neither, not-both, or-left, or-right}
-use Rattle.model.proofs.Valid.{Valid, valid}
-use Rattle.model.proofs.Good.{Good, is-good}
-use Rattle.model.proofs.Kept.{step-good, opened-good}
-use Rattle.model.proofs.Band.{run-good, settings-armed, events-attrs, swept-attrs}
+use Rattle.model.specs.Claims.{number, EqualLimits}
+use Rattle.model.proofs.Logic.{by-cond, neither, not-both}
+use Rattle.model.proofs.Valid.{Valid}
 
 -- equal stored limits
 pub record SameLimits (s t : Settings) : Type 0 where

@@ -4,7 +4,6 @@ use mathlib.Core.Bool.{true, not, cond}
 use mathlib.Core.List.{List, [], _∷_, _++_, append-assoc}
 use Prim.Native.Nat.{ℕ}
 use borrow.Author.Tests.{not-false}
-use Rattle.units.specs.Units.{equal}
 use Rattle.units.specs.declared.Hundredths.{Hundredths}
 use Rattle.model.specs.Answers.{Outcome}
 use Rattle.model.specs.Refusals.{Row, row}

@@ -1,6 +1,6 @@
 -- Every setpoint stays in its band, and the gap is kept unless licensed, over whole lists.
 use mathlib.Core.Path.{_≡_, refl, sym, _∙_, subst}
-use mathlib.Core.Bool.{Bool, true, false, not, _&&_, _||_, cond}
+use mathlib.Core.Bool.{Bool, true, false, _||_, cond}
 use mathlib.Core.List.{List, [], _∷_}
 use Prim.Native.Nat.{ℕ}
 use lib.Dec.{eqb}
@@ -8,14 +8,14 @@ use lib.IntN.{ℤ, _+ℤ_, _-ℤ_}
 use lib.Signed.{_≤ℤ_, ≤ℤ-refl}
 use borrow.Author.Tests.{not-false}
 use Rattle.integers.specs.Linear.{linear, sum-parts, diff-parts}
-use Rattle.integers.specs.Clamp.{clampZ, maxZ, minZ, max-parts, min-parts, clamp-above, clamp-below, max-right, min-right}
-use Rattle.units.specs.Units.{plus, minus, above, below, widened, greater, lesser, clamped, raised}
+use Rattle.integers.specs.Clamp.{clampZ, minZ, clamp-above, clamp-below, min-right}
+use Rattle.units.specs.Units.{plus, minus, widened, lesser, clamped}
 use Rattle.units.specs.declared.Hundredths.{Hundredths}
 use Rattle.units.specs.declared.Tenths.{Tenths}
-use Rattle.records.specs.Records.{changedTo, withAttrs, setHeating, setCooling, setMinHeat, setMaxHeat, setMinCool, setMaxCool, setMode, withPending}
+use Rattle.records.specs.Records.{changedTo, withAttrs, setMinHeat, setMaxHeat, setMinCool, setMaxCool, setMode, withPending}
 use Rattle.model.specs.Answers.{Outcome, Stage, quiet, andThen, unchanged}
 use Rattle.model.specs.Refusals.{Row, unless, Clear, numbered}
-use Rattle.model.specs.Served.{heats, cools, auto, serves, listed}
+use Rattle.model.specs.Served.{heats, cools, auto, listed}
 use Rattle.model.specs.Units.{deadBand}
 use Rattle.model.specs.Limits.{minHeatSetpoint, maxHeatSetpoint, minCoolSetpoint, maxCoolSetpoint, inHeatLimits, inCoolLimits, clampHeatSetpoint, clampCoolSetpoint}
 use Rattle.model.specs.Modes.{isSupportedSystemMode}
@@ -40,7 +40,7 @@ use Rattle.records.specs.declared.OutOfBandMessage.{OutOfBandMessage}
 use Rattle.records.specs.declared.OutOfBandMessage.the-variants.{LocalTemperature, RunningState, Update, OccupiedHeatingSetpoint, OccupiedCoolingSetpoint, SystemMode, SetpointLimits}
 use Rattle.records.specs.declared.Call.{Call}
 use Rattle.records.specs.declared.Call.the-variants.{WriteOccupiedHeatingSetpoint, WriteOccupiedCoolingSetpoint, WriteMinHeatSetpointLimit, WriteMaxHeatSetpointLimit, WriteMinCoolSetpointLimit, WriteMaxCoolSetpointLimit, WriteSystemMode, SetControlSequenceOfOperation, RaiseLowerSetpoint, ArmClock, OutOfBand, SeedEvents, Sweep, Timer, Deadline}
-use Rattle.model.specs.Claims.{Entry, after, number, run, licenceAfter, licensed, GapKept, InBand, Band}
+use Rattle.model.specs.Claims.{Entry, after, number, run, licenceAfter, licensed, GapKept, Band}
 use Rattle.model.proofs.Logic.{clash, not-both, by-cond, by-refusal}
 use Rattle.model.proofs.Valid.{Valid, valid}
 use Rattle.model.proofs.Chain.{InForce, LimitTests, Placed, inside, apart, in-force, heat-clamped, cool-clamped}

@@ -1,12 +1,12 @@
 -- The limits in force of a record that passes row 28: in order, and with AUTO the dead band apart.
-use mathlib.Core.Path.{_≡_, refl, sym, _∙_}
-use mathlib.Core.Bool.{Bool, true, false, not, _&&_, _||_, cond}
+use mathlib.Core.Path.{_≡_, refl}
+use mathlib.Core.Bool.{Bool, true, false, not, _&&_, cond}
 use Prim.Native.Nat.{ℕ}
 use native.Mathlib.Omega.{arith}
-use lib.IntN.{ℤ, pos, _+ℤ_, _-ℤ_}
+use lib.IntN.{ℤ, pos, _+ℤ_}
 use lib.Signed.{_≤ℤ_, ltZ}
 use Rattle.integers.specs.Linear.{linear, sum-parts, diff-parts}
-use Rattle.integers.specs.Clamp.{clampZ, clamp-low, clamp-high, clamp-below}
+use Rattle.integers.specs.Clamp.{clamp-low, clamp-high}
 use Rattle.units.specs.Units.{less, minus, above, within, clamped}
 use Rattle.units.specs.declared.Hundredths.{Hundredths}
 use Rattle.units.specs.declared.Wide.{Wide}

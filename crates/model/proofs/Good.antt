@@ -4,7 +4,7 @@ use mathlib.Core.Bool.{true, false, _&&_, _||_, cond}
 use Prim.Native.Nat.{ℕ}
 use lib.Dec.{eqb, ltb}
 use borrow.Author.Tests.{not-false, ltb-false, le-leb}
-use Rattle.units.specs.Units.{plus, within, widened, raised, inHundredths}
+use Rattle.units.specs.Units.{plus, widened, raised, inHundredths}
 use Rattle.units.specs.declared.Hundredths.{Hundredths}
 use Rattle.units.specs.declared.Tenths.{Tenths}
 use Rattle.records.specs.Records.{changedTo, withAttrs, setMode, withPending}
@@ -31,7 +31,7 @@ use Rattle.records.specs.declared.Controller.{Controller}
 use Rattle.records.specs.declared.Readings.{Readings}
 use Rattle.records.specs.declared.OutOfBandMessage.{OutOfBandMessage}
 use Rattle.records.specs.declared.OutOfBandMessage.the-variants.{LocalTemperature, RunningState, Update, OccupiedHeatingSetpoint, OccupiedCoolingSetpoint, SystemMode, SetpointLimits}
-use Rattle.model.proofs.Logic.{both, implied, implies, neither, by-cond, by-unless}
+use Rattle.model.proofs.Logic.{both, implied, implies, by-cond, by-unless}
 use Rattle.model.proofs.Valid.{Valid}
 use Rattle.model.proofs.Chain.{LimitTests, Placed, InForce, in-force, clamp-inside, heat-clamped, cool-clamped}
 use Rattle.model.proofs.Repair.{repair-placed}

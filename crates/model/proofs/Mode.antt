@@ -1,31 +1,25 @@
 -- The mode is a function of the mode before, the configuration and the call.
 use mathlib.Core.Path.{_≡_, refl, sym, _∙_, ap, subst}
-use mathlib.Core.Bool.{Bool, true, false, not, _&&_, _||_, cond}
-use mathlib.Core.List.{List, [], _∷_, _++_, append-assoc}
+use mathlib.Core.Bool.{Bool, true, false, not, _&&_, cond}
+use mathlib.Core.List.{List, [], _∷_}
 use Prim.Native.Nat.{ℕ}
-use lib.Dec.{eqb, ltb}
-use borrow.Author.Tests.{not-false, not-true}
-use Rattle.units.specs.Units.{plus, minus, above, below, within, widened, greater, lesser, clamped, raised, equal}
-use Rattle.units.specs.declared.Hundredths.{Hundredths}
+use lib.Dec.{eqb}
 use Rattle.units.specs.declared.Tenths.{Tenths}
-use Rattle.records.specs.Records.{withAttrs, withPending, setHeating, setCooling, setMinHeat, setMaxHeat, setMinCool, setMaxCool, setMode, setLimits}
-use Rattle.model.specs.Answers.{Outcome, Stage, quiet, andThen, unchanged}
-use Rattle.model.specs.Refusals.{Row, row, unless, Clear, numbered}
-use Rattle.model.specs.Served.{heats, cools, auto, serves, listed, hasHeatLimits, hasCoolLimits}
-use Rattle.model.specs.Units.{deadBand}
-use Rattle.model.specs.Limits.{minHeatSetpoint, maxHeatSetpoint, minCoolSetpoint, maxCoolSetpoint, inHeatLimits, inCoolLimits, clampHeatSetpoint, clampCoolSetpoint}
+use Rattle.records.specs.Records.{withAttrs, setMinHeat, setMaxHeat, setMinCool, setMaxCool, setMode}
+use Rattle.model.specs.Answers.{Outcome, Stage, quiet, unchanged}
+use Rattle.model.specs.Refusals.{Row, row, unless}
+use Rattle.model.specs.Served.{heats, cools, auto, hasHeatLimits, hasCoolLimits}
+use Rattle.model.specs.Limits.{inHeatLimits, inCoolLimits}
 use Rattle.model.specs.Modes.{isSupportedSystemMode}
-use Rattle.model.specs.Attribution.{external, armedClock, claimSetpoints}
-use Rattle.model.specs.Validation.{accepted}
+use Rattle.model.specs.Attribution.{armedClock, claimSetpoints}
 use Rattle.model.specs.Repair.{clampMinHeat, clampMaxHeat, clampMinCool, clampMaxCool, pullMinHeat, pullMaxHeat, clampHeating, clampCooling, pushCooling, pushHeating, repairMode, repairLimits, repairSetpoints, repaired}
-use Rattle.model.specs.Sound.{sound, unsound, lastClock}
+use Rattle.model.specs.Sound.{sound, unsound}
 use Rattle.model.specs.Orders.{askSweep}
-use Rattle.model.specs.Writes.{minHeatRows, maxHeatRows, minCoolRows, maxCoolRows, unserved, applied, namesAbsentSide, coolingBeside, heatingBeside, storeHeatingSetpoint, storeCoolingSetpoint, pullHeating, pullCooling, limitStored, raiseHeating, raiseCooling, raiseBoth, raiseSides, writeOccupiedHeatingSetpoint, writeOccupiedCoolingSetpoint, writeMinHeatSetpointLimit, writeMaxHeatSetpointLimit, writeMinCoolSetpointLimit, writeMaxCoolSetpointLimit, writeSystemMode, setControlSequenceOfOperation, raiseLowerSetpoint, armClock}
+use Rattle.model.specs.Writes.{applied, storeHeatingSetpoint, storeCoolingSetpoint, pullHeating, pullCooling, raiseHeating, raiseCooling, raiseBoth, raiseSides, writeOccupiedHeatingSetpoint, writeOccupiedCoolingSetpoint, writeMinHeatSetpointLimit, writeMaxHeatSetpointLimit, writeMinCoolSetpointLimit, writeMaxCoolSetpointLimit, writeSystemMode, setControlSequenceOfOperation, raiseLowerSetpoint, armClock}
 use Rattle.model.specs.Messages.{messageTaken, heatingMessage, coolingMessage, modeMessage, limitsMessage, limitsTaken, outOfBandMessage}
-use Rattle.model.specs.Sweep.{late, takeEvents, swept, sweep, timer, started, seedEvents, deadline}
-use Rattle.model.specs.Step.{opened, step}
+use Rattle.model.specs.Sweep.{sweep, timer, started, seedEvents, deadline}
+use Rattle.model.specs.Step.{step}
 use Rattle.records.specs.declared.Config.{Config}
-use Rattle.records.specs.declared.Settings.{Settings}
 use Rattle.records.specs.declared.Attrs.{Attrs}
 use Rattle.records.specs.declared.Controller.{Controller}
 use Rattle.records.specs.declared.Readings.{Readings}
@@ -33,14 +27,10 @@ use Rattle.records.specs.declared.OutOfBandMessage.{OutOfBandMessage}
 use Rattle.records.specs.declared.OutOfBandMessage.the-variants.{LocalTemperature, RunningState, Update, OccupiedHeatingSetpoint, OccupiedCoolingSetpoint, SystemMode, SetpointLimits}
 use Rattle.records.specs.declared.Call.{Call}
 use Rattle.records.specs.declared.Call.the-variants.{WriteOccupiedHeatingSetpoint, WriteOccupiedCoolingSetpoint, WriteMinHeatSetpointLimit, WriteMaxHeatSetpointLimit, WriteMinCoolSetpointLimit, WriteMaxCoolSetpointLimit, WriteSystemMode, SetControlSequenceOfOperation, RaiseLowerSetpoint, ArmClock, OutOfBand, SeedEvents, Sweep, Timer, Deadline}
-use Rattle.model.specs.Claims.{Entry, entry, after, number, run, numbers, AllAccepted, EqualLimits, EqualSetpoints, Agree, limitsEntry, Adjacent, LimitsThenWrites, ModeWritten, Agreement, LimitsAgree, ModesAgree, SetpointsAgree}
-use Rattle.model.proofs.Logic.{by-cond, by-unless, clash, neither, not-both, or-left, or-right}
-use Rattle.model.proofs.Valid.{Valid, valid}
-use Rattle.model.proofs.Good.{Good, is-good}
-use Rattle.model.proofs.Kept.{step-good, opened-good, heat-served, cool-served}
-use Rattle.model.proofs.Agree.{SameLimits, SamePoints, both-unless, chained, self, limits-in-force, same-in-heat, same-in-cool, same-clamp-heat, same-clamp-cool, heating-limits, cooling-limits, pull-heat-limits, pull-cool-limits, raise-limits, Alike, same-repaired, heating-points, cooling-points, pull-heat-points, pull-cool-points, raise-points}
-use Rattle.model.proofs.Refused.{swept-done}
-use Rattle.model.proofs.Band.{run-good, settings-armed, events-attrs, swept-attrs}
+use Rattle.model.proofs.Logic.{by-cond, by-unless, clash}
+use Rattle.model.proofs.Valid.{Valid}
+use Rattle.model.proofs.Good.{Good}
+use Rattle.model.proofs.Band.{events-attrs, swept-attrs}
 
 -- the mode after a call, from the mode before it
 abbrev pub modeAfter : Config → ℕ → Call → ℕ
@@ -70,49 +60,13 @@ module _ (cfg : Config) where
   abbrev ModeOf : Attrs → Attrs → Type 0
   ModeOf a b = b .settings .mode ≡ a .settings .mode
 
-  mode-clampMinHeat : (a : Attrs) → clampMinHeat cfg a .settings .mode ≡ a .settings .mode
-  unfolding clampMinHeat
-  mode-clampMinHeat a = by-cond (ModeOf a) (hasHeatLimits cfg) _ a (λ e. refl) (λ e. refl)
-
-  mode-clampMaxHeat : (a : Attrs) → clampMaxHeat cfg a .settings .mode ≡ a .settings .mode
-  unfolding clampMaxHeat
-  mode-clampMaxHeat a = by-cond (ModeOf a) (hasHeatLimits cfg) _ a (λ e. refl) (λ e. refl)
-
-  mode-clampMinCool : (a : Attrs) → clampMinCool cfg a .settings .mode ≡ a .settings .mode
-  unfolding clampMinCool
-  mode-clampMinCool a = by-cond (ModeOf a) (hasCoolLimits cfg) _ a (λ e. refl) (λ e. refl)
-
-  mode-clampMaxCool : (a : Attrs) → clampMaxCool cfg a .settings .mode ≡ a .settings .mode
-  unfolding clampMaxCool
-  mode-clampMaxCool a = by-cond (ModeOf a) (hasCoolLimits cfg) _ a (λ e. refl) (λ e. refl)
-
-  mode-pullMinHeat : (a : Attrs) → pullMinHeat cfg a .settings .mode ≡ a .settings .mode
-  unfolding pullMinHeat
-  mode-pullMinHeat a = by-cond (ModeOf a) (auto cfg && hasHeatLimits cfg) _ a (λ e. refl) (λ e. refl)
-
-  mode-pullMaxHeat : (a : Attrs) → pullMaxHeat cfg a .settings .mode ≡ a .settings .mode
-  unfolding pullMaxHeat
-  mode-pullMaxHeat a = by-cond (ModeOf a) (auto cfg && hasHeatLimits cfg) _ a (λ e. refl) (λ e. refl)
-
-  mode-clampHeating : (a : Attrs) → clampHeating cfg a .settings .mode ≡ a .settings .mode
-  unfolding clampHeating
-  mode-clampHeating a = by-cond (ModeOf a) (heats cfg) _ a (λ e. refl) (λ e. refl)
-
-  mode-clampCooling : (a : Attrs) → clampCooling cfg a .settings .mode ≡ a .settings .mode
-  unfolding clampCooling
-  mode-clampCooling a = by-cond (ModeOf a) (cools cfg) _ a (λ e. refl) (λ e. refl)
-
-  mode-pushCooling : (a : Attrs) → pushCooling cfg a .settings .mode ≡ a .settings .mode
-  unfolding pushCooling
-  mode-pushCooling a = by-cond (ModeOf a) (auto cfg) _ a (λ e. refl) (λ e. refl)
-
-  mode-pushHeating : (a : Attrs) → pushHeating cfg a .settings .mode ≡ a .settings .mode
-  unfolding pushHeating
-  mode-pushHeating a = by-cond (ModeOf a) (auto cfg) _ a (λ e. refl) (λ e. refl)
+  -- a step of the repair that leaves the mode, made or not
+  unmoved : (t : Bool) (b a : Attrs) → ModeOf a b → ModeOf a (cond t b a)
+  unmoved t b a e = by-cond (ModeOf a) t b a (λ f. e) (λ f. refl)
 
   -- a supported mode stays through a repair
   mode-repaired : (a : Attrs) → isSupportedSystemMode cfg (a .settings .mode) ≡ true → repaired cfg a .settings .mode ≡ a .settings .mode
-  unfolding repaired repairSetpoints repairLimits repairMode
+  unfolding repaired repairSetpoints repairLimits repairMode clampMinHeat clampMaxHeat clampMinCool clampMaxCool pullMinHeat pullMaxHeat clampHeating clampCooling pushCooling pushHeating
   mode-repaired a m =
       let a₁ = clampMinHeat cfg a in
       let a₂ = clampMaxHeat cfg a₁ in
@@ -124,7 +78,16 @@ module _ (cfg : Config) where
       let a₈ = clampCooling cfg a₇ in
       let a₉ = pushCooling cfg a₈ in
       let b = pushHeating cfg a₉ in
-      let e : b .settings .mode ≡ a .settings .mode = mode-pushHeating a₉ ∙ mode-pushCooling a₈ ∙ mode-clampCooling a₇ ∙ mode-clampHeating a₆ ∙ mode-pullMaxHeat a₅ ∙ mode-pullMinHeat a₄ ∙ mode-clampMaxCool a₃ ∙ mode-clampMinCool a₂ ∙ mode-clampMaxHeat a₁ ∙ mode-clampMinHeat a in
+      let e₁ : ModeOf a a₁ = unmoved (hasHeatLimits cfg) _ a refl in
+      let e₂ : ModeOf a a₂ = unmoved (hasHeatLimits cfg) _ a₁ refl ∙ e₁ in
+      let e₃ : ModeOf a a₃ = unmoved (hasCoolLimits cfg) _ a₂ refl ∙ e₂ in
+      let e₄ : ModeOf a a₄ = unmoved (hasCoolLimits cfg) _ a₃ refl ∙ e₃ in
+      let e₅ : ModeOf a a₅ = unmoved (auto cfg && hasHeatLimits cfg) _ a₄ refl ∙ e₄ in
+      let e₆ : ModeOf a a₆ = unmoved (auto cfg && hasHeatLimits cfg) _ a₅ refl ∙ e₅ in
+      let e₇ : ModeOf a a₇ = unmoved (heats cfg) _ a₆ refl ∙ e₆ in
+      let e₈ : ModeOf a a₈ = unmoved (cools cfg) _ a₇ refl ∙ e₇ in
+      let e₉ : ModeOf a a₉ = unmoved (auto cfg) _ a₈ refl ∙ e₈ in
+      let e : ModeOf a b = unmoved (auto cfg) _ a₉ refl ∙ e₉ in
       by-cond (ModeOf a) (isSupportedSystemMode cfg (b .settings .mode)) b (setMode b 0) (λ f. e) (λ f. clash (isSupportedSystemMode cfg (b .settings .mode)) (ap (isSupportedSystemMode cfg) e ∙ m) f)
 
 -- stores of setpoints and limits leave the mode

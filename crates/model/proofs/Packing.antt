@@ -1,15 +1,14 @@
 -- Lists and the arrays that hold them: pushing onto a packed list packs the longer list, and nothing of a list that has room is lost.
 use mathlib.Core.Path.{_≡_, refl, sym, _∙_, ap}
-use mathlib.Core.Bool.{Bool, true, false, cond}
 use mathlib.Core.List.{List, [], _∷_, _++_, append-assoc, append-nil, map}
-use Prim.Native.Nat.{ℕ, suc, _+_, _≤_, _<_}
+use Prim.Native.Nat.{ℕ, _+_, _≤_, _<_}
 use native.Mathlib.Numerals.{add-one}
 use native.Mathlib.Omega.{arith}
 use borrow.Author.Tests.{lt-ltb}
 use lib.ListN.{length, take, set, length-set, length-replicate}
 use lib.Seq.{take-suc-set}
 use Rattle.records.specs.Records.{noNotices, noEvents}
-use Rattle.model.specs.Answers.{foldLeft, onlyIf, push, pushAll, packed, emit, emitAll, packedEvents}
+use Rattle.model.specs.Answers.{foldLeft, push, pushAll, packed, emit, emitAll, packedEvents}
 use Rattle.records.specs.declared.Event.{Event}
 use Rattle.records.specs.declared.Event.the-variants.{NoEvent}
 use Rattle.records.specs.declared.EventSlot.{EventSlot}
@@ -28,14 +27,6 @@ pub push-none : (n : Notices) → pushAll n [] ≡ n
 unfolding pushAll
 push-none n = refl
 
-pub push-one : (n : Notices) (c : ℕ) → push n c ≡ pushAll n (c ∷ [])
-unfolding pushAll
-push-one n c = refl
-
-pub push-packed : (l : List ℕ) (c : ℕ) → push (packed l) c ≡ packed (l ++ (c ∷ []))
-unfolding packed
-push-packed l c = push-one (pushAll noNotices l) c ∙ push-all-append noNotices l (c ∷ [])
-
 pub emit-all-append : (es : Events) (l m : List Event) → emitAll (emitAll es l) m ≡ emitAll es (l ++ m)
 unfolding emitAll
 emit-all-append es l m = sym (fold-append emit es l m)
@@ -47,10 +38,6 @@ emit-none es = refl
 pub emit-one : (es : Events) (e : Event) → emit es e ≡ emitAll es (e ∷ [])
 unfolding emitAll
 emit-one es e = refl
-
-pub emit-packed : (l : List Event) (e : Event) → emit (packedEvents l) e ≡ packedEvents (l ++ (e ∷ []))
-unfolding packedEvents
-emit-packed l e = emit-one (emitAll noEvents l) e ∙ emit-all-append noEvents l (e ∷ [])
 
 -- an array of a fixed size with a length, of items that wrap what is pushed
 module _ {S A B : Type 0} (items : S → List A) (len : S → ℕ) (wrap : B → A) (room : ℕ) (add : S → B → S)

@@ -4,7 +4,6 @@ use mathlib.Core.Bool.{true, false, not}
 use mathlib.Core.List.{List, [], _∷_}
 use Prim.Native.Nat.{ℕ}
 use borrow.Author.Tests.{not-false}
-use Rattle.units.specs.Units.{equal}
 use Rattle.units.specs.declared.Hundredths.{Hundredths}
 use Rattle.units.specs.declared.Tenths.{Tenths}
 use Rattle.records.specs.Records.{withAttrs, setMinHeat, setMaxHeat, setMinCool, setMaxCool}
@@ -29,7 +28,7 @@ use Rattle.records.specs.declared.OutOfBandMessage.{OutOfBandMessage}
 use Rattle.records.specs.declared.OutOfBandMessage.the-variants.{LocalTemperature, RunningState, Update, OccupiedHeatingSetpoint, OccupiedCoolingSetpoint, SystemMode, SetpointLimits}
 use Rattle.records.specs.declared.Call.{Call}
 use Rattle.records.specs.declared.Call.the-variants.{WriteOccupiedHeatingSetpoint, WriteOccupiedCoolingSetpoint, WriteMinHeatSetpointLimit, WriteMaxHeatSetpointLimit, WriteMinCoolSetpointLimit, WriteMaxCoolSetpointLimit, WriteSystemMode, SetControlSequenceOfOperation, RaiseLowerSetpoint, ArmClock, OutOfBand, SeedEvents, Sweep, Timer, Deadline}
-use Rattle.model.specs.Claims.{after, number, numbers, EqualLimits}
+use Rattle.model.specs.Claims.{number, EqualLimits}
 use Rattle.model.proofs.Logic.{or-left, or-right}
 use Rattle.model.proofs.Valid.{Valid, valid}
 use Rattle.model.proofs.Good.{Good, is-good}

@@ -1,13 +1,12 @@
 -- Repair of any settings on an accepted configuration leaves what row 28 asks of settings.
 use mathlib.Core.Path.{_≡_, refl, sym, _∙_}
-use mathlib.Core.Bool.{Bool, true, false, not, _&&_, _||_, cond}
+use mathlib.Core.Bool.{true, false, _&&_}
 use Prim.Native.Nat.{ℕ}
-use native.Mathlib.Omega.{arith}
-use lib.IntN.{ℤ, pos, _+ℤ_, _-ℤ_}
+use lib.IntN.{ℤ, _+ℤ_, _-ℤ_}
 use lib.Signed.{_≤ℤ_}
 use Rattle.integers.specs.Linear.{linear, sum-parts, diff-parts}
-use Rattle.integers.specs.Clamp.{clampZ, minZ, min-parts, clamp-low, clamp-high, clamp-below, clamp-above, clamp-within}
-use Rattle.units.specs.Units.{minus, widened, clamped, plus, greater, lesser}
+use Rattle.integers.specs.Clamp.{clampZ, minZ, min-parts, clamp-low, clamp-high, clamp-below, clamp-above}
+use Rattle.units.specs.Units.{minus, widened, clamped}
 use Rattle.units.specs.declared.Hundredths.{Hundredths}
 use Rattle.units.specs.declared.Wide.{Wide}
 use Rattle.records.specs.Records.{setHeating, setCooling, setMode}
@@ -16,10 +15,9 @@ use Rattle.model.specs.Units.{deadBand}
 use Rattle.model.specs.Limits.{minHeatSetpoint, maxHeatSetpoint, minCoolSetpoint, maxCoolSetpoint, inHeatLimits, inCoolLimits, clampHeatSetpoint, clampCoolSetpoint}
 use Rattle.model.specs.Modes.{isSupportedSystemMode}
 use Rattle.model.specs.Repair.{clampMinHeat, clampMaxHeat, clampMinCool, clampMaxCool, pullMinHeat, pullMaxHeat, clampHeating, clampCooling, pushCooling, pushHeating, repairMode, repairLimits, repairSetpoints, repaired}
-use Rattle.model.specs.Sound.{soundHeatLimits, soundCoolLimits, soundGap, soundHeating, soundCooling, soundSettings}
+use Rattle.model.specs.Sound.{soundHeatLimits, soundCoolLimits, soundGap, soundHeating, soundCooling}
 use Rattle.records.specs.declared.Config.{Config}
 use Rattle.records.specs.declared.Attrs.{Attrs}
-use Rattle.records.specs.declared.Settings.{Settings}
 use Rattle.model.proofs.Logic.{both, and-true, implies, by-cond, clash}
 use Rattle.model.proofs.Valid.{Valid}
 use Rattle.model.proofs.Chain.{Ordered, LimitTests, Placed, is-heat-ordered, is-cool-ordered, is-gaps, in-force, heat-clamped, cool-clamped}

@@ -1,11 +1,10 @@
 -- What rows 1 to 21 leave of an accepted configuration, as the laws use it.
-use mathlib.Core.Path.{_≡_, refl, sym, _∙_, ap, subst}
-use mathlib.Core.Bool.{Bool, true, false, not, _&&_, _||_, cond}
-use mathlib.Core.List.{List, [], _++_}
-use Prim.Native.Nat.{ℕ}
-use lib.IntN.{ℤ, pos, _+ℤ_, _-ℤ_, _*ℤ_}
+use mathlib.Core.Path.{_≡_, refl, sym, _∙_, ap}
+use mathlib.Core.Bool.{Bool, true, false, not, _&&_}
+use mathlib.Core.List.{_++_}
+use lib.IntN.{ℤ, pos, _+ℤ_}
 use lib.Signed.{_≤ℤ_}
-use borrow.Author.Tests.{eqb-true, not-true, not-false}
+use borrow.Author.Tests.{eqb-true, not-false}
 use Rattle.integers.specs.Linear.{linear, sum-parts, diff-parts, scale-parts}
 use Rattle.units.specs.Units.{inHundredths, less, minus, above, negative}
 use Rattle.units.specs.declared.Hundredths.{Hundredths}
@@ -62,10 +61,6 @@ module _ (cfg : Config) (ok : accepted cfg ≡ true) where
 
   after-events : Clear (eventRows cfg) × Clear (numberRows cfg)
   after-events = clear-append (eventRows cfg) _ (after-limits .1)
-
-  dead-band-auto : auto cfg ≡ true → deadBand cfg .0 ≡ cfg .deadband .0 *ℤ pos 10
-  unfolding deadBand inHundredths
-  dead-band-auto a = simp a
 
   band-kept : negative (cfg .deadband) ≡ false → pos 0 ≤ℤ inHundredths (cfg .deadband) .0
   unfolding negative inHundredths

@@ -16,7 +16,6 @@ use Rattle.records.specs.declared.Config.{Config}
 use Rattle.records.specs.declared.Settings.{Settings}
 use Rattle.records.specs.declared.Controller.{Controller}
 use Rattle.records.specs.declared.Readings.{Readings}
-use Rattle.records.specs.declared.OutOfBandMessage.{OutOfBandMessage}
 use Rattle.records.specs.declared.OutOfBandMessage.the-variants.{LocalTemperature, RunningState, Update, OccupiedHeatingSetpoint, OccupiedCoolingSetpoint, SystemMode, SetpointLimits}
 use Rattle.records.specs.declared.Call.{Call}
 use Rattle.records.specs.declared.Call.the-variants.{WriteOccupiedHeatingSetpoint, WriteOccupiedCoolingSetpoint, WriteMinHeatSetpointLimit, WriteMaxHeatSetpointLimit, WriteMinCoolSetpointLimit, WriteMaxCoolSetpointLimit, WriteSystemMode, SetControlSequenceOfOperation, RaiseLowerSetpoint, ArmClock, OutOfBand, SeedEvents, Sweep, Timer, Deadline}

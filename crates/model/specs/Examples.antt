@@ -1,7 +1,6 @@
 -- The theorem at work on document 01's plant, and what its premises rule out. docs/THEOREM.md tells of each.
 use mathlib.Core.Path.{_≡_}
 use mathlib.Core.List.{List, [], _∷_, _++_}
-use Prim.Native.Nat.{ℕ}
 use lib.IntN.{ℤ, pos, negsuc}
 use Rattle.model.specs.Step.{opened}
 use Rattle.model.specs.Plant.{at, plant, plantSettings, noReadings}
@@ -10,7 +9,6 @@ use Rattle.records.specs.declared.Settings.{Settings}
 use Rattle.records.specs.declared.Controller.{Controller}
 use Rattle.records.specs.declared.Temperature.the-variants.{Reading}
 use Rattle.records.specs.declared.Second.the-variants.{NoSecond, At}
-use Rattle.records.specs.declared.Readings.{Readings}
 use Rattle.records.specs.declared.OutOfBandMessage.the-variants.{LocalTemperature, OccupiedHeatingSetpoint}
 use Rattle.records.specs.declared.Call.{Call}
 use Rattle.records.specs.declared.Call.the-variants.{WriteOccupiedHeatingSetpoint, WriteOccupiedCoolingSetpoint, WriteMinHeatSetpointLimit, WriteMaxHeatSetpointLimit, WriteMinCoolSetpointLimit, WriteMaxCoolSetpointLimit, WriteSystemMode, RaiseLowerSetpoint, OutOfBand, SeedEvents, Sweep}

@@ -7,14 +7,12 @@ use Rattle.units.specs.Units.{hundredths}
 use Rattle.units.specs.declared.Hundredths.{Hundredths}
 use Rattle.model.specs.Answers.{Outcome}
 use Rattle.model.specs.Temperature.{significant, eventDue}
-use Rattle.model.specs.Step.{opened, step}
+use Rattle.model.specs.Step.{step}
 use Rattle.records.specs.declared.Config.{Config}
 use Rattle.records.specs.declared.Settings.{Settings}
-use Rattle.records.specs.declared.Temperature.{Temperature}
 use Rattle.records.specs.declared.Temperature.the-variants.{NoReading, Reading}
 use Rattle.records.specs.declared.Second.the-variants.{NoSecond}
-use Rattle.records.specs.declared.Moment.the-variants.{Never, Ms}
-use Rattle.records.specs.declared.Controller.{Controller}
+use Rattle.records.specs.declared.Moment.the-variants.{Ms}
 use Rattle.records.specs.declared.Readings.{Readings}
 use Rattle.records.specs.declared.Call.{Call}
 use Rattle.records.specs.declared.Call.the-variants.{WriteOccupiedHeatingSetpoint, WriteOccupiedCoolingSetpoint, WriteMaxCoolSetpointLimit, RaiseLowerSetpoint, OutOfBand}

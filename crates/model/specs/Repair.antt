@@ -1,5 +1,5 @@
 -- Document 01, Repair: each step by itself, on the settings with their dirty mark.
-use mathlib.Core.Bool.{not, _&&_, cond}
+use mathlib.Core.Bool.{_&&_, cond}
 use mathlib.Core.List.{[]}
 use Rattle.units.specs.Units.{widened, plus, minus, greater, lesser, clamped}
 use Rattle.records.specs.Records.{withAttrs, setHeating, setCooling, setMinHeat, setMaxHeat, setMinCool, setMaxCool, setMode}

@@ -1,7 +1,7 @@
 -- Document 01, row 28: what every record has that an opening or a call leaves.
 use mathlib.Core.Bool.{Bool, true, not, _&&_, _||_}
 use Prim.Native.Nat.{ℕ}
-use lib.Dec.{leb, ltb}
+use lib.Dec.{leb}
 use Rattle.units.specs.Units.{minus, above, within}
 use Rattle.model.specs.Refusals.{Row, row}
 use Rattle.model.specs.Served.{heats, cools, auto, hasHeatLimits, hasCoolLimits}

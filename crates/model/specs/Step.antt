@@ -1,10 +1,7 @@
 -- Opening, and every call by cases.
 use mathlib.Core.Bool.{false, cond}
-use mathlib.Core.List.{[]}
-use Prim.Native.Nat.{ℕ}
 use Rattle.records.specs.Records.{blank}
 use Rattle.model.specs.Answers.{Outcome, quiet}
-use Rattle.model.specs.Served.{emitsAny}
 use Rattle.model.specs.Validation.{validated, accepted}
 use Rattle.model.specs.Repair.{repairedRecord}
 use Rattle.model.specs.Writes.{writeOccupiedHeatingSetpoint, writeOccupiedCoolingSetpoint, writeMinHeatSetpointLimit, writeMaxHeatSetpointLimit, writeMinCoolSetpointLimit, writeMaxCoolSetpointLimit, writeSystemMode, setControlSequenceOfOperation, raiseLowerSetpoint, armClock}

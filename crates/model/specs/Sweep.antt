@@ -6,7 +6,7 @@ use lib.Dec.{eqb, ltb}
 use Rattle.units.specs.Units.{equal, saturatedDifference}
 use Rattle.units.specs.declared.Hundredths.{Hundredths}
 use Rattle.records.specs.Records.{firstSnapshot, withPending, withEvents, withChange, changedTo}
-use Rattle.model.specs.Answers.{Outcome, Stage, onlyIf, quiet, andThen, unchanged}
+use Rattle.model.specs.Answers.{Outcome, Stage, onlyIf, quiet, unchanged}
 use Rattle.model.specs.Refusals.{Row, row, unless}
 use Rattle.model.specs.Served.{heats, cools, listed, emits, noticed}
 use Rattle.model.specs.Modes.{runningState, runningMode}

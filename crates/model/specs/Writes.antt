@@ -113,55 +113,53 @@ pullCooling cfg d r =
     cond (inCoolLimits cfg s (s .cooling)) (unchanged r)
     (storeCoolingSetpoint cfg d external (clampCoolSetpoint cfg s (widened (s .cooling))) r)
 
--- the limit is stored and noticed, then pulls
+-- a limit write: refused where its attribute is unserved or its value is barred; else the limit is stored and noticed, then pulls
+abbrev pub limitWriteRows : Config → Controller → ℕ → Bool → List Row
+limitWriteRows cfg r code barred = unsound cfg r ∷ unserved cfg code ∷ row 22 barred ∷ []
+
 abbrev pub limitStored : Config → Controller → Attrs → ℕ → Stage
 limitStored cfg r a code = record { rec = withAttrs r a; notices = noticed cfg code }
+
+abbrev pub limitWrite : Config → Controller → Readings → List Row → Stage → (Controller → Stage) → Outcome
+limitWrite cfg r d rows stored pull = unless rows r (applied cfg d (andThen stored pull))
 
 -- a minimum may not exceed its maximum or leave ABS; AUTO keeps it at most cooling minimum − dead band
 abbrev pub barsMinHeat : Config → Settings → Hundredths → Bool
 barsMinHeat cfg s v = not (within v (cfg .absminheat) (s .maxheat)) || (auto cfg && above v (minus (minCoolSetpoint cfg s) (deadBand cfg)))
 
 abbrev pub minHeatRows : Config → Controller → Hundredths → List Row
-minHeatRows cfg r v = unsound cfg r ∷ unserved cfg 0x15 ∷ row 22 (barsMinHeat cfg (r .attrs .settings) v) ∷ []
+minHeatRows cfg r v = limitWriteRows cfg r 0x15 (barsMinHeat cfg (r .attrs .settings) v)
 
 unfoldable pub writeMinHeatSetpointLimit : Config → Controller → Readings → Hundredths → Outcome
-writeMinHeatSetpointLimit cfg r d v =
-    unless (minHeatRows cfg r v) r
-    (applied cfg d (andThen (limitStored cfg r (setMinHeat (r .attrs) v) 0x15) (pullHeating cfg d)))
+writeMinHeatSetpointLimit cfg r d v = limitWrite cfg r d (minHeatRows cfg r v) (limitStored cfg r (setMinHeat (r .attrs) v) 0x15) (pullHeating cfg d)
 
 -- nor a maximum the reverse
 abbrev pub barsMaxHeat : Config → Settings → Hundredths → Bool
 barsMaxHeat cfg s v = not (within v (s .minheat) (cfg .absmaxheat)) || (auto cfg && above v (minus (maxCoolSetpoint cfg s) (deadBand cfg)))
 
 abbrev pub maxHeatRows : Config → Controller → Hundredths → List Row
-maxHeatRows cfg r v = unsound cfg r ∷ unserved cfg 0x16 ∷ row 22 (barsMaxHeat cfg (r .attrs .settings) v) ∷ []
+maxHeatRows cfg r v = limitWriteRows cfg r 0x16 (barsMaxHeat cfg (r .attrs .settings) v)
 
 unfoldable pub writeMaxHeatSetpointLimit : Config → Controller → Readings → Hundredths → Outcome
-writeMaxHeatSetpointLimit cfg r d v =
-    unless (maxHeatRows cfg r v) r
-    (applied cfg d (andThen (limitStored cfg r (setMaxHeat (r .attrs) v) 0x16) (pullHeating cfg d)))
+writeMaxHeatSetpointLimit cfg r d v = limitWrite cfg r d (maxHeatRows cfg r v) (limitStored cfg r (setMaxHeat (r .attrs) v) 0x16) (pullHeating cfg d)
 
 abbrev pub barsMinCool : Config → Settings → Hundredths → Bool
 barsMinCool cfg s v = not (within v (cfg .absmincool) (s .maxcool)) || (auto cfg && below v (plus (minHeatSetpoint cfg s) (deadBand cfg)))
 
 abbrev pub minCoolRows : Config → Controller → Hundredths → List Row
-minCoolRows cfg r v = unsound cfg r ∷ unserved cfg 0x17 ∷ row 22 (barsMinCool cfg (r .attrs .settings) v) ∷ []
+minCoolRows cfg r v = limitWriteRows cfg r 0x17 (barsMinCool cfg (r .attrs .settings) v)
 
 unfoldable pub writeMinCoolSetpointLimit : Config → Controller → Readings → Hundredths → Outcome
-writeMinCoolSetpointLimit cfg r d v =
-    unless (minCoolRows cfg r v) r
-    (applied cfg d (andThen (limitStored cfg r (setMinCool (r .attrs) v) 0x17) (pullCooling cfg d)))
+writeMinCoolSetpointLimit cfg r d v = limitWrite cfg r d (minCoolRows cfg r v) (limitStored cfg r (setMinCool (r .attrs) v) 0x17) (pullCooling cfg d)
 
 abbrev pub barsMaxCool : Config → Settings → Hundredths → Bool
 barsMaxCool cfg s v = not (within v (s .mincool) (cfg .absmaxcool)) || (auto cfg && below v (plus (maxHeatSetpoint cfg s) (deadBand cfg)))
 
 abbrev pub maxCoolRows : Config → Controller → Hundredths → List Row
-maxCoolRows cfg r v = unsound cfg r ∷ unserved cfg 0x18 ∷ row 22 (barsMaxCool cfg (r .attrs .settings) v) ∷ []
+maxCoolRows cfg r v = limitWriteRows cfg r 0x18 (barsMaxCool cfg (r .attrs .settings) v)
 
 unfoldable pub writeMaxCoolSetpointLimit : Config → Controller → Readings → Hundredths → Outcome
-writeMaxCoolSetpointLimit cfg r d v =
-    unless (maxCoolRows cfg r v) r
-    (applied cfg d (andThen (limitStored cfg r (setMaxCool (r .attrs) v) 0x18) (pullCooling cfg d)))
+writeMaxCoolSetpointLimit cfg r d v = limitWrite cfg r d (maxCoolRows cfg r v) (limitStored cfg r (setMaxCool (r .attrs) v) 0x18) (pullCooling cfg d)
 
 -- 0x1C last, always
 abbrev pub thenNoticed : Config → ℕ → Outcome → Outcome

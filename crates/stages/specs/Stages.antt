@@ -1,6 +1,6 @@
 -- A stage of the definitions, as the code holds it: its notices pushed onto those before it.
 use Prim.Native.Nat.{ℕ}
-use Rattle.records.specs.Records.{noNotices, noEvents}
+use Rattle.records.specs.Records.{noEvents}
 use Rattle.model.specs.Answers.{Stage as ModelStage, pushAll}
 use Rattle.model.specs.Orders.{orderOf, askSweep}
 use Rattle.model.specs.Writes.{relayNotices}
@@ -14,9 +14,6 @@ use Rattle.stages.specs.declared.Stage.{Stage}
 
 abbrev pub staged : Notices → ModelStage → Stage
 staged n s = record { rec = s .rec; notices = pushAll n (s .notices) }
-
-abbrev pub first : ModelStage → Stage
-first s = staged noNotices s
 
 -- an answer whose record has more pending bits
 abbrev pub withBits : Answer → ℕ → Answer

@@ -1,5 +1,5 @@
 use mathlib.Core.Path.{_∙_, sym}
-use Rattle.model.proofs.Packing.{push-none, push-all-append}
+use Rattle.model.proofs.Packing.{push-none}
 use Rattle.model.specs.Writes.{pullCooling}
 use Rattle.limit_stores.proofs.pull_cooling.Statement.{statement}
 use Rattle.limit_stores.proofs.pull_cooling.Tie as tie

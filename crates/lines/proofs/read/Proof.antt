@@ -5,22 +5,10 @@ use borrow.Author.Needs.{needs}
 use Rattle.lines.proofs.read.Statement.{statement}
 use Rattle.lines.proofs.read.Tie as tie
 
-returns : tie.Need-returns
-returns c = record { empty = λ h. refl; comment = λ h. refl; long = λ n h. absurd (omega arith) }
-
-shared-slice-read-if2 : tie.Need-shared-slice-read-if2
-shared-slice-read-if2 c = search needs
-
-returns-2 : tie.Need-returns-2
-returns-2 c = record { empty = λ h. refl; comment = λ h. refl; long = λ n h. absurd (n (c .if2 .taken)) }
-
-returns-3 : tie.Need-returns-3
-returns-3 c = record { empty = λ h. absurd (omega arith); comment = λ h. absurd (c .before .if2 .left h); long = λ n h. refl }
-
 returns-4 : tie.Need-returns-4
 returns-4 c =
     let b = c .before in
     record { empty = λ h. absurd (omega arith); comment = λ h. absurd (b .before .if2 .left h); long = λ n h. absurd (omega arith) }
 
 pub read-spec : {M : Type 1} → statement M
-read-spec = tie.close (tie.spec returns shared-slice-read-if2 returns-2 returns-3 (λ c κs. tt) returns-4)
+read-spec = tie.close (tie.spec (λ c. record { empty = λ h. refl; comment = λ h. refl; long = λ n h. absurd (omega arith) }) (λ c. search needs) (λ c. record { empty = λ h. refl; comment = λ h. refl; long = λ n h. absurd (n (c .if2 .taken)) }) (λ c. record { empty = λ h. absurd (omega arith); comment = λ h. absurd (c .before .if2 .left h); long = λ n h. refl }) (λ c κs. tt) returns-4)

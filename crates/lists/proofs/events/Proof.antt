@@ -1,4 +1,4 @@
--- `printing::lists::events` meets its contract. The invariant: each item took at most 128 bytes. The measure is the items that are left.
+-- `lists::events` meets its contract. The invariant: each item took at most 128 bytes. The measure is the items that are left.
 -- Assumes nothing.
 use Prim.Native.Nat.{_+_, _*_, _-_, _≤_}
 use native.Mathlib.Omega.{arith}
@@ -12,39 +12,6 @@ Inv-loop page₀ at n count a₀ i₀ page a i = (i ≤ count) × (a ≤ at + 12
 abbrev μ-loop : tie.MeasureT-loop
 μ-loop page₀ at n count a₀ i₀ page a i = count - i
 
-slice-aggregate-text : tie.Need-slice-aggregate-text Inv-loop μ-loop
-slice-aggregate-text c = search needs
-
-text-requires : tie.Need-text-requires Inv-loop μ-loop
-text-requires c κs = search needs
-
-returns : tie.Need-returns Inv-loop μ-loop
-returns c = search needs
-
-loop-holds : tie.Need-loop-holds Inv-loop μ-loop
-loop-holds c = omega arith
-
-mul-s : tie.Need-mul-s Inv-loop μ-loop
-mul-s c = search needs
-
-element-copy-out-s : tie.Need-element-copy-out-s Inv-loop μ-loop
-element-copy-out-s c = search needs
-
-listed-requires : tie.Need-listed-requires Inv-loop μ-loop
-listed-requires c κs = omega arith
-
-add-i : tie.Need-add-i Inv-loop μ-loop
-add-i c = omega arith
-
-loop-less : tie.Need-loop-less Inv-loop μ-loop
-loop-less c = omega arith
-
-loop-again : tie.Need-loop-again Inv-loop μ-loop
-loop-again c = omega arith
-
-returns-2 : tie.Need-returns-2 Inv-loop μ-loop
-returns-2 c = omega arith
-
 pub events-spec : {M : Type 1} → statement M
 events-spec =
     tie.close
@@ -52,14 +19,14 @@ events-spec =
     Inv-loop
     μ-loop
     (λ c κs. tt)
-    slice-aggregate-text
-    text-requires
-    returns
-    loop-holds
-    mul-s
-    element-copy-out-s
-    listed-requires
-    add-i
-    loop-less
-    loop-again
-    returns-2)
+    (λ c. search needs)
+    (λ c κs. search needs)
+    (λ c. search needs)
+    (λ c. omega arith)
+    (λ c. search needs)
+    (λ c. search needs)
+    (λ c κs. omega arith)
+    (λ c. omega arith)
+    (λ c. omega arith)
+    (λ c. omega arith)
+    (λ c. omega arith))

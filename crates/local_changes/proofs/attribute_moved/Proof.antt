@@ -1,5 +1,5 @@
 use mathlib.Core.Path.{_∙_, sym}
-use Rattle.model.proofs.Packing.{push-none, push-all-append, emit-none, emit-one, emit-all-append}
+use Rattle.model.proofs.Packing.{push-none}
 use Rattle.local_changes.proofs.attribute_moved.Statement.{statement}
 use Rattle.local_changes.proofs.attribute_moved.Tie as tie
 

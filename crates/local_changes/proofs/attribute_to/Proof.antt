@@ -1,5 +1,5 @@
 use borrow.Author.Needs.{needs}
-use Rattle.model.proofs.Packing.{push-none, push-all-append, emit-none, emit-one, emit-all-append}
+use Rattle.model.proofs.Packing.{push-none}
 use Rattle.local_changes.proofs.attribute_to.Statement.{statement}
 use Rattle.local_changes.proofs.attribute_to.Tie as tie
 

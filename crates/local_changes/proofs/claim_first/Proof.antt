@@ -1,4 +1,4 @@
-use Rattle.model.proofs.Packing.{push-none, push-all-append, emit-none, emit-one, emit-all-append}
+use Rattle.model.proofs.Packing.{push-none}
 use Rattle.local_changes.proofs.claim_first.Statement.{statement}
 use Rattle.local_changes.proofs.claim_first.Tie as tie
 

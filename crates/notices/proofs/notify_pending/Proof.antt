@@ -40,9 +40,6 @@ loop-again c =
     let l = c .before .before .before .loop in
     (search needs, advance _ _ noticeTable (l .n) (l .i) _ _ (search needs) (c .notify-row .ensures) (l .inv .1))
 
-returns : tie.Need-returns Inv-loop μ-loop
-returns c = let l = c .before .loop in finish _ _ noticeTable (l .n) (l .i) _ (search needs) (l .inv .1)
-
 pub notify-pending-spec : {M : Type 1} → statement M
 notify-pending-spec =
     tie.close
@@ -57,4 +54,4 @@ notify-pending-spec =
     (λ c. search needs)
     (λ c. search needs)
     loop-again
-    returns)
+    (λ c. let l = c .before .loop in finish _ _ noticeTable (l .n) (l .i) _ (search needs) (l .inv .1)))

@@ -1,4 +1,4 @@
-use Rattle.model.proofs.Packing.{push-none, push-all-append}
+use Rattle.model.proofs.Packing.{push-all-append}
 use Rattle.model.specs.Writes.{raiseBoth}
 use Rattle.raise_sides.proofs.raise_both.Statement.{statement}
 use Rattle.raise_sides.proofs.raise_both.Tie as tie

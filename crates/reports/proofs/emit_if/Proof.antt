@@ -1,4 +1,4 @@
-use Rattle.model.proofs.Packing.{push-none, push-all-append, emit-none, emit-one, emit-all-append}
+use Rattle.model.proofs.Packing.{emit-none, emit-one}
 use Rattle.model.specs.Answers.{onlyIf}
 use Rattle.reports.proofs.emit_if.Statement.{statement}
 use Rattle.reports.proofs.emit_if.Tie as tie

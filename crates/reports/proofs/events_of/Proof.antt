@@ -1,4 +1,4 @@
-use Rattle.model.proofs.Packing.{push-none, push-all-append, emit-none, emit-one, emit-all-append}
+use Rattle.model.proofs.Packing.{emit-all-append}
 use mathlib.Core.List.{append-assoc}
 use Rattle.model.specs.Answers.{packedEvents}
 use Rattle.model.specs.Sweep.{eventsOf}

@@ -1,11 +1,8 @@
--- `sessions::serve::flush` meets its contract. Assumes nothing.
+-- `session::flush` meets its contract. Assumes nothing.
 use mathlib.Core.Path.{_∙_}
 use borrow.Author.Needs.{needs}
 use Rattle.session.proofs.flush.Statement.{statement}
 use Rattle.session.proofs.flush.Tie as tie
-
-write-front-requires : tie.Need-write-front-requires
-write-front-requires c κs = search needs
 
 returns : tie.Need-returns
 returns c =
@@ -14,4 +11,4 @@ returns c =
     ((g .0 .0 ∙ f .0 .0, g .0 .1 ∙ f .0 .1), (g .1 .0 ∙ f .1 .0, g .1 .1 ∙ f .1 .1))
 
 pub flush-spec : {M : Type 1} → statement M
-flush-spec = tie.close (tie.spec write-front-requires (λ c κs. tt) (λ c κs. tt) returns)
+flush-spec = tie.close (tie.spec (λ c κs. search needs) (λ c κs. tt) (λ c κs. tt) returns)

@@ -1,4 +1,4 @@
-use Rattle.model.proofs.Packing.{push-none, push-all-append}
+use Rattle.model.proofs.Packing.{push-all-append}
 use mathlib.Core.List.{append-assoc}
 use Rattle.model.specs.Writes.{sourceNotices}
 use Rattle.stages.proofs.notify_source_attrs.Statement.{statement}

@@ -1,4 +1,4 @@
-use Rattle.model.proofs.Packing.{push-none, push-all-append}
+use Rattle.model.proofs.Packing.{push-all-append}
 use Rattle.model.specs.Writes.{storeCoolingSetpoint}
 use Rattle.stores.proofs.store_cooling_setpoint.Statement.{statement}
 use Rattle.stores.proofs.store_cooling_setpoint.Tie as tie

@@ -1,5 +1,5 @@
 use mathlib.Core.Path.{_∙_, sym}
-use Rattle.model.proofs.Packing.{push-none, push-all-append, emit-none, emit-one, emit-all-append}
+use Rattle.model.proofs.Packing.{push-all-append, emit-none}
 use borrow.Author.Tests.{eq-eqb, ne-eqb}
 use Rattle.model.specs.Answers.{packed, packedEvents}
 use Rattle.model.specs.Sweep.{swept, sweepEvents}

@@ -21,8 +21,5 @@ natural {z = negsuc n} f t = absurd (omega linear)
 held : (c : tie.Else1) → SFits w16 (c .before .before .args .v .0)
 held c = search ranges
 
-cast-result : tie.Need-cast-result
-cast-result c = rw (toZ-ofZ (held c)) (natural (held c) (rw (toZ-ofZ (held c)) at (c .if1 .left)))
-
 pub whole-spec : {M : Type 1} → statement M
-whole-spec = tie.close (tie.spec (λ c. search needs) cast-result (λ c. search needs))
+whole-spec = tie.close (tie.spec (λ c. search needs) (λ c. rw (toZ-ofZ (held c)) (natural (held c) (rw (toZ-ofZ (held c)) at (c .if1 .left)))) (λ c. search needs))

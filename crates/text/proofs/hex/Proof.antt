@@ -1,5 +1,5 @@
 -- `text::hex` meets its contract: there are at most 16 digits. Assumes nothing.
-use Prim.Native.Nat.{_≤_, _^_, _<_}
+use Prim.Native.Nat.{_≤_}
 use native.Mathlib.Omega.{arith}
 use borrow.Author.Needs.{needs}
 use Rattle.text.proofs.Digits.{at-most}
@@ -9,17 +9,5 @@ use Rattle.text.proofs.hex.Tie as tie
 few : (c : tie.After-hex) → c .hex .result ≤ 16
 few c = at-most 16 2 (c .before .before .args .n) (c .hex .result) 16 (omega arith) (omega arith) (omega arith) (c .hex .ensures .1 .0)
 
-array-share-prefix-digits : tie.Need-array-share-prefix-digits
-array-share-prefix-digits c = search needs
-
-slice-aggregate-text : tie.Need-slice-aggregate-text
-slice-aggregate-text c = search needs
-
-text-requires : tie.Need-text-requires
-text-requires c κs = omega (arith, few (c .before .before))
-
-returns : tie.Need-returns
-returns c = omega (arith, few (c .before .before .before))
-
 pub hex-spec : {M : Type 1} → statement M
-hex-spec = tie.close (tie.spec (λ c κs. tt) array-share-prefix-digits slice-aggregate-text text-requires returns)
+hex-spec = tie.close (tie.spec (λ c κs. tt) (λ c. search needs) (λ c. search needs) (λ c κs. omega (arith, few (c .before .before))) (λ c. omega (arith, few (c .before .before .before))))

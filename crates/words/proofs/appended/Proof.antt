@@ -1,4 +1,4 @@
--- `lines::words::appended` meets its contract. Assumes nothing.
+-- `words::appended` meets its contract. Assumes nothing.
 use Prim.Native.Nat.{_+_, _*_, _-_, _^_, _<_, _≤_}
 use native.Mathlib.Omega.{arith}
 use borrow.Author.Needs.{needs}
@@ -15,24 +15,12 @@ returns-2 : tie.Need-returns-2
 unfolding appendedOf
 returns-2 c = simp (le-leb _ _ (c .before .if1 .left), lt-leb _ _ (c .if2 .taken))
 
-cast-d : tie.Need-cast-d
-cast-d c = search needs
-
-sub-if3 : tie.Need-sub-if3
-sub-if3 c = search needs
-
 returns-3 : tie.Need-returns-3
 unfolding appendedOf
 returns-3 c =
     let b = c .before .before .before in
     let over : 2 ^ 64 ≤ b .args .size * 10 + (b .args .byte - 48) = omega arith in
     simp (le-leb _ _ (c .before .before .if1 .left), le-leb _ _ (c .before .if2 .left), le-ltb _ _ over)
-
-mul-t6 : tie.Need-mul-t6
-mul-t6 c = search needs
-
-add-t7 : tie.Need-add-t7
-add-t7 c = search needs
 
 returns-4 : tie.Need-returns-4
 unfolding appendedOf
@@ -42,4 +30,4 @@ returns-4 c =
     simp (le-leb _ _ (c .before .before .if1 .left), le-leb _ _ (c .before .if2 .left), lt-ltb _ _ within)
 
 pub appended-spec : {M : Type 1} → statement M
-appended-spec = tie.close (tie.spec returns returns-2 cast-d sub-if3 returns-3 mul-t6 add-t7 returns-4)
+appended-spec = tie.close (tie.spec returns returns-2 (λ c. search needs) (λ c. search needs) returns-3 (λ c. search needs) (λ c. search needs) returns-4)

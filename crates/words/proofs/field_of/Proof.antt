@@ -1,4 +1,4 @@
--- `lines::words::field_of` meets its contract. Assumes nothing.
+-- `words::field_of` meets its contract. Assumes nothing.
 use Prim.Native.Nat.{_-_}
 use native.Mathlib.Omega.{arith}
 use mathlib.Core.Path.{_≡_, sym, _∙_}
@@ -24,18 +24,6 @@ unfolding fieldOf
 returns-3 c =
     let b = c .before .before in
     simp (ne-eqb _ _ (b .before .before .if1 .left), sym (b .before .is-only .ensures) ∙ b .if2 .left, sym (c .before .is-only2 .ensures) ∙ c .if3 .taken)
-
-shared-slice-read-if4 : tie.Need-shared-slice-read-if4
-shared-slice-read-if4 c = search needs
-
-sub-digits-of : tie.Need-sub-digits-of
-sub-digits-of c = search needs
-
-part-digits-of-start : tie.Need-part-digits-of-start
-part-digits-of-start c = search needs
-
-part-digits-of-end : tie.Need-part-digits-of-end
-part-digits-of-end c = search needs
 
 returns-4 : tie.Need-returns-4
 unfolding fieldOf
@@ -64,10 +52,10 @@ field-of-spec =
     returns-2
     (λ c κs. tt)
     returns-3
-    shared-slice-read-if4
-    sub-digits-of
-    part-digits-of-start
-    part-digits-of-end
+    (λ c. search needs)
+    (λ c. search needs)
+    (λ c. search needs)
+    (λ c. search needs)
     (λ c κs. tt)
     (λ c κs. tt)
     returns-4

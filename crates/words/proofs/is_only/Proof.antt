@@ -1,4 +1,4 @@
--- `lines::words::is_only` meets its contract. Assumes nothing.
+-- `words::is_only` meets its contract. Assumes nothing.
 use borrow.Author.Needs.{needs}
 use borrow.Author.Tests.{eq-eqb, ne-eqb}
 use Rattle.words.specs.Words.{isOnly}

@@ -1,4 +1,4 @@
--- `lines::words::minus` meets its contract. Assumes nothing.
+-- `words::minus` meets its contract. Assumes nothing.
 use borrow.Author.Needs.{needs}
 use Rattle.words.proofs.minus.Statement.{statement}
 use Rattle.words.proofs.minus.Tie as tie

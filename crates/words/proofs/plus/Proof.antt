@@ -1,4 +1,4 @@
--- `lines::words::plus` meets its contract. Assumes nothing.
+-- `words::plus` meets its contract. Assumes nothing.
 use borrow.Author.Needs.{needs}
 use Rattle.words.proofs.plus.Statement.{statement}
 use Rattle.words.proofs.plus.Tie as tie

@@ -11,21 +11,6 @@ Inv-loop word row i₀ i = Unit {0}
 abbrev μ-loop : tie.MeasureT-loop
 μ-loop word row i₀ i = 10 - i
 
-mul-if3 : tie.Need-mul-if3 Inv-loop μ-loop
-mul-if3 c = search needs
-
-index-1-if3 : tie.Need-index-1-if3 Inv-loop μ-loop
-index-1-if3 c = search needs
-
-index-2-if3 : tie.Need-index-2-if3 Inv-loop μ-loop
-index-2-if3 c = search needs
-
-add-i : tie.Need-add-i Inv-loop μ-loop
-add-i c = omega arith
-
-loop-less : tie.Need-loop-less Inv-loop μ-loop
-loop-less c = omega arith
-
 pub is-first-spec : {M : Type 1} → statement M
 is-first-spec =
     tie.close
@@ -35,12 +20,12 @@ is-first-spec =
     (λ c. tt)
     (λ c. tt)
     (λ c. tt)
-    mul-if3
-    index-1-if3
-    index-2-if3
+    (λ c. search needs)
+    (λ c. search needs)
+    (λ c. search needs)
     (λ c κs. tt)
     (λ c. tt)
-    add-i
-    loop-less
+    (λ c. omega arith)
+    (λ c. omega arith)
     (λ c. tt)
     (λ c. tt))

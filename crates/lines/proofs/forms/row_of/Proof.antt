@@ -10,11 +10,5 @@ Inv-loop word row₀ row = Unit {0}
 abbrev μ-loop : tie.MeasureT-loop
 μ-loop word row₀ row = 24 - row
 
-add-row : tie.Need-add-row Inv-loop μ-loop
-add-row c = omega arith
-
-loop-less : tie.Need-loop-less Inv-loop μ-loop
-loop-less c = omega arith
-
 pub row-of-spec : {M : Type 1} → statement M
-row-of-spec = tie.close (tie.spec Inv-loop μ-loop (λ c. tt) (λ c κs. tt) (λ c. tt) add-row loop-less (λ c. tt) (λ c. tt))
+row-of-spec = tie.close (tie.spec Inv-loop μ-loop (λ c. tt) (λ c κs. tt) (λ c. tt) (λ c. omega arith) (λ c. omega arith) (λ c. tt) (λ c. tt))

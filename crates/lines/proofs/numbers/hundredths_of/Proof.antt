@@ -16,21 +16,6 @@ above n f = omega arith
 below : (n : ℕ) → SFits w16 (pos 0 -ℤ pos n) → n ≤ 32768
 below n f = omega (linear, diff-parts (pos 0) (pos n), range-parts (pos 0 -ℤ pos n))
 
-returns : tie.Need-returns
-returns c = rw (c .before .before .f .given .1) (λ h. c .positive .ensures (above _ h))
-
-returns-2 : tie.Need-returns-2
-returns-2 c = rw (c .before .before .f2 .given .1) (λ h. c .negative .ensures (below _ h))
-
-returns-3 : tie.Need-returns-3
-returns-3 c = rw (c .enum-told .given .1) (λ h. refl)
-
-returns-4 : tie.Need-returns-4
-returns-4 c = rw (c .enum-told2 .given .1) (λ h. refl)
-
-returns-5 : tie.Need-returns-5
-returns-5 c = rw (c .enum-told3 .given .1) (λ h. refl)
-
 pub hundredths-of-spec : {M : Type 1} → statement M
 hundredths-of-spec =
     tie.close
@@ -42,8 +27,8 @@ hundredths-of-spec =
     (λ c. search needs)
     (λ c. search needs)
     (λ c. search needs)
-    returns
-    returns-2
-    returns-3
-    returns-4
-    returns-5)
+    (λ c. rw (c .before .before .f .given .1) (λ h. c .positive .ensures (above _ h)))
+    (λ c. rw (c .before .before .f2 .given .1) (λ h. c .negative .ensures (below _ h)))
+    (λ c. rw (c .enum-told .given .1) (λ h. refl))
+    (λ c. rw (c .enum-told2 .given .1) (λ h. refl))
+    (λ c. rw (c .enum-told3 .given .1) (λ h. refl)))

@@ -1,6 +1,5 @@
 -- `lines::signed::as_tenths` meets its contract: past the two tests 8 bits hold the number. Assumes nothing.
-use Prim.Native.Nat.{_≤_}
-use mathlib.Core.Path.{_≡_, ap}
+use mathlib.Core.Path.{_≡_}
 use mathlib.Core.Bool.{true, false}
 use lib.IntN.{ℤ, pos, negsuc}
 use lib.Signed.{ltZ}
@@ -31,17 +30,5 @@ high c = search ranges
 held : (c : tie.Else2) → SFits w16 (c .before .before .before .args .v .0)
 held c = search ranges
 
-returns : tie.Need-returns
-returns c = λ h. absurd (under (rw (toZ-ofZ (low c)) at (c .if1 .taken)) h)
-
-returns-2 : tie.Need-returns-2
-returns-2 c = λ h. absurd (over (rw (toZ-ofZ (high c)) at (c .if2 .taken)) h)
-
-cast-t4 : tie.Need-cast-t4
-cast-t4 c = rw (toZ-ofZ (held c)) (between (rw (toZ-ofZ (held c)) at (c .before .if1 .left)) (rw (toZ-ofZ (held c)) at (c .if2 .left)))
-
-returns-3 : tie.Need-returns-3
-returns-3 c = search needs
-
 pub as-tenths-spec : {M : Type 1} → statement M
-as-tenths-spec = tie.close (tie.spec returns returns-2 cast-t4 returns-3)
+as-tenths-spec = tie.close (tie.spec (λ c. λ h. absurd (under (rw (toZ-ofZ (low c)) at (c .if1 .taken)) h)) (λ c. λ h. absurd (over (rw (toZ-ofZ (high c)) at (c .if2 .taken)) h)) (λ c. rw (toZ-ofZ (held c)) (between (rw (toZ-ofZ (held c)) at (c .before .if1 .left)) (rw (toZ-ofZ (held c)) at (c .if2 .left)))) (λ c. search needs))

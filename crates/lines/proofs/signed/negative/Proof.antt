@@ -13,9 +13,6 @@ use Rattle.lines.proofs.signed.negative.Tie as tie
 unclamped : (n : ℕ) → n < 32768 → clampZ (pos 0 -ℤ pos n) (negsuc 32767) (pos 32767) ≡ pos 0 -ℤ pos n
 unclamped n h = clamp-within _ _ _ (omega (linear, diff-parts (pos 0) (pos n))) (omega (linear, diff-parts (pos 0) (pos n)))
 
-returns : tie.Need-returns
-returns c = λ h. rw (c .if1 .taken)
-
 returns-2 : tie.Need-returns-2
 unfolding saturatedDifference clamped minus
 returns-2 c = λ h.
@@ -26,4 +23,4 @@ returns-2 c = λ h.
     ∙ unclamped n l
 
 pub negative-spec : {M : Type 1} → statement M
-negative-spec = tie.close (tie.spec returns (λ c κs. tt) (λ c κs. tt) returns-2)
+negative-spec = tie.close (tie.spec (λ c. λ h. rw (c .if1 .taken)) (λ c κs. tt) (λ c κs. tt) returns-2)

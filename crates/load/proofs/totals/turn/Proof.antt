@@ -10,9 +10,6 @@ use Rattle.load.proofs.Bounds.{notices-most, events-most}
 use Rattle.load.proofs.totals.turn.Statement.{statement}
 use Rattle.load.proofs.totals.turn.Tie as tie
 
-count-requires : tie.Need-count-requires
-count-requires c κs = (c .before .before .before .before .pre, rw (c .step .ensures) (notices-most _), rw (c .step .ensures) (events-most _))
-
 returns : tie.Need-returns
 unfolding turned
 returns c =
@@ -30,4 +27,4 @@ returns c =
     ∙ ap (λ (x : Drawn). answer (step plant (l .rec) noReadings (x .call))) (d .choose .ensures))
 
 pub turn-spec : {M : Type 1} → statement M
-turn-spec = tie.close (tie.spec (λ c κs. tt) (λ c κs. tt) (λ c κs. tt) (λ c κs. tt) count-requires returns)
+turn-spec = tie.close (tie.spec (λ c κs. tt) (λ c κs. tt) (λ c κs. tt) (λ c κs. tt) (λ c κs. (c .before .before .before .before .pre, rw (c .step .ensures) (notices-most _), rw (c .step .ensures) (events-most _))) returns)

@@ -12,26 +12,5 @@ Inv-loop line₀ page₀ t₀ turns₀ line page t turns = (t .held ≤ 251) × 
 abbrev μ-loop : tie.MeasureT-loop
 μ-loop line₀ page₀ t₀ turns₀ line page t turns = turns
 
-loop-holds : tie.Need-loop-holds Inv-loop μ-loop
-loop-holds c = c .pre
-
-returns : tie.Need-returns Inv-loop μ-loop
-returns c = search needs
-
-read-some-requires : tie.Need-read-some-requires Inv-loop μ-loop
-read-some-requires c κs = search needs
-
-sub-turns : tie.Need-sub-turns Inv-loop μ-loop
-sub-turns c = omega arith
-
-loop-less : tie.Need-loop-less Inv-loop μ-loop
-loop-less c = omega arith
-
-loop-again : tie.Need-loop-again Inv-loop μ-loop
-loop-again c = search needs
-
-returns-2 : tie.Need-returns-2 Inv-loop μ-loop
-returns-2 c = search needs
-
 pub read-all-spec : {M : Type 1} → statement M
-read-all-spec = tie.close (tie.spec Inv-loop μ-loop loop-holds returns read-some-requires sub-turns loop-less loop-again returns-2)
+read-all-spec = tie.close (tie.spec Inv-loop μ-loop (λ c. c .pre) (λ c. search needs) (λ c κs. search needs) (λ c. omega arith) (λ c. omega arith) (λ c. search needs) (λ c. search needs))

@@ -6,12 +6,6 @@ use Rattle.sessions.proofs.Room.{for-answer, for-more, within}
 use Rattle.sessions.proofs.serve.call.Statement.{statement}
 use Rattle.sessions.proofs.serve.call.Tie as tie
 
-answer-requires : tie.Need-answer-requires
-answer-requires c κs = for-answer _ (c .before .before .pre)
-
-finish-requires : tie.Need-finish-requires
-finish-requires c κs = for-more _ (c .before .before .before .before .pre) 33 _ (lit≤ tt) (c .before .answer .ensures)
-
 returns : tie.Need-returns
 returns c =
     let f = c .filled-to .ensures in
@@ -21,4 +15,4 @@ returns c =
     (f .0 .0 ∙ w .0 .0, rw (f .0 .1) (within _ (a .before .before .before .pre) 33 _ _ (lit≤ tt) (a .answer .ensures) (e .finish .ensures)), (f .1 .0 ∙ w .1 .0, f .1 .1 ∙ w .1 .1 ∙ ap (λ (x : Answer). x .rec) (a .before .before .step .ensures)))
 
 pub call-spec : {M : Type 1} → statement M
-call-spec = tie.close (tie.spec (λ c κs. tt) answer-requires finish-requires (λ c κs. tt) (λ c κs. tt) returns)
+call-spec = tie.close (tie.spec (λ c κs. tt) (λ c κs. for-answer _ (c .before .before .pre)) (λ c κs. for-more _ (c .before .before .before .before .pre) 33 _ (lit≤ tt) (c .before .answer .ensures)) (λ c κs. tt) (λ c κs. tt) returns)

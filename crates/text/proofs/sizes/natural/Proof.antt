@@ -31,14 +31,5 @@ low c = search ranges
 held : (c : tie.Else1) → SFits w32 (c .before .before .args .a .0)
 held c = search ranges
 
-returns : tie.Need-returns
-returns c = under (c .before .before .args .a .0) (rw (toZ-ofZ (low c)) at (c .if1 .taken))
-
-cast-result : tie.Need-cast-result
-cast-result c = rw (toZ-ofZ (held c)) (cast (held c) (rw (toZ-ofZ (held c)) at (c .if1 .left)))
-
-returns-2 : tie.Need-returns-2
-returns-2 c = rw (toZ-ofZ (held c)) (over (c .before .before .args .a .0) (rw (toZ-ofZ (held c)) at (c .if1 .left)))
-
 pub natural-spec : {M : Type 1} → statement M
-natural-spec = tie.close (tie.spec returns cast-result returns-2)
+natural-spec = tie.close (tie.spec (λ c. under (c .before .before .args .a .0) (rw (toZ-ofZ (low c)) at (c .if1 .taken))) (λ c. rw (toZ-ofZ (held c)) (cast (held c) (rw (toZ-ofZ (held c)) at (c .if1 .left)))) (λ c. rw (toZ-ofZ (held c)) (over (c .before .before .args .a .0) (rw (toZ-ofZ (held c)) at (c .if1 .left)))))
