@@ -61,7 +61,7 @@ pub fn step(cfg: Config, rec: Controller, d: Readings, call: Call) -> Answer
             mode,
             amount,
         ),
-        Call::ArmClock => mode_writes::arm_clock(cfg, rec, d),
+        Call::ArmClock => arming::arm_clock(cfg, rec, d),
         Call::OutOfBand(m) => messages::out_of_band_message(cfg, rec, m),
         Call::SeedEvents => timer::seed_events(cfg, rec, d),
         Call::Sweep => sweep::sweep(cfg, rec, d),

@@ -6,32 +6,7 @@ use records::Answer;
 use records::Config;
 use records::Controller;
 use records::Readings;
-use records::Settings;
 use units::Hundredths;
-
-fn bars_min_cool(cfg: Config, s: Settings, v: Hundredths) -> bool
-    ensures { λ r. ⌜ r ≡ spec.barsMinCool cfg s v ⌝ }
-{
-    let inside = ranges::is_within(v, cfg.absmincool, s.maxcool);
-    let auto = served::auto(cfg);
-    let near = units::is_below(
-        v,
-        units::add(limits::min_heat_setpoint(cfg, s), limits::dead_band(cfg)),
-    );
-    !inside | (auto & near)
-}
-
-fn bars_max_cool(cfg: Config, s: Settings, v: Hundredths) -> bool
-    ensures { λ r. ⌜ r ≡ spec.barsMaxCool cfg s v ⌝ }
-{
-    let inside = ranges::is_within(v, s.mincool, cfg.absmaxcool);
-    let auto = served::auto(cfg);
-    let near = units::is_below(
-        v,
-        units::add(limits::max_heat_setpoint(cfg, s), limits::dead_band(cfg)),
-    );
-    !inside | (auto & near)
-}
 
 pub fn write_min_cool_setpoint_limit(
     cfg: Config,
@@ -47,7 +22,7 @@ pub fn write_min_cool_setpoint_limit(
     if !served::serves(cfg, 0x17) {
         return orders::quiet_answer(24, r);
     }
-    if bars_min_cool(cfg, r.attrs.settings, v) {
+    if limit_rules::bars_min_cool(cfg, r.attrs.settings, v) {
         return orders::quiet_answer(22, r);
     }
     limit_stores::store_cool_limit(cfg, r, d, attrs::set_min_cool(r.attrs, v), 0x17)
@@ -67,7 +42,7 @@ pub fn write_max_cool_setpoint_limit(
     if !served::serves(cfg, 0x18) {
         return orders::quiet_answer(24, r);
     }
-    if bars_max_cool(cfg, r.attrs.settings, v) {
+    if limit_rules::bars_max_cool(cfg, r.attrs.settings, v) {
         return orders::quiet_answer(22, r);
     }
     limit_stores::store_cool_limit(cfg, r, d, attrs::set_max_cool(r.attrs, v), 0x18)

@@ -1,4 +1,4 @@
-// model/specs/Sweep: start, and taking events.
+// model/specs/Sweep: taking events.
 ghost use mathlib.Core.Path.{_≡_};
 ghost use Rattle.records.specs.declared.Moment.the-variants.{Never};
 ghost use Rattle.records.specs.declared.Order.the-variants.{NoOrder};
@@ -8,7 +8,6 @@ ghost use Rattle.events.specs.Parts.{packedTaken};
 use records::Answer;
 use records::Config;
 use records::Controller;
-use records::EventState;
 use records::Events;
 use records::Moment;
 use records::Notices;
@@ -21,22 +20,6 @@ use records::Snapshot;
 pub struct Taken {
     pub rec: Controller,
     pub events: Events,
-}
-
-// Starting takes the snapshot and claims the setpoints.
-pub fn start(cfg: Config, d: Readings, r: Controller) -> Controller
-    ensures { λ q. ⌜ q ≡ spec.started cfg d r ⌝ }
-{
-    let s = snapshots::snapshot(cfg, d, r);
-    let e = r.events;
-    let last = e.last;
-    let f = EventState {
-        shadow: Shadow::Seeded(s),
-        last: last,
-    };
-    let mut q = r;
-    q.events = f;
-    attribution::claim_setpoints(cfg, q)
 }
 
 fn take_since(cfg: Config, d: Readings, r: Controller, old: Snapshot) -> Taken
@@ -68,7 +51,7 @@ fn take_from(cfg: Config, d: Readings, r: Controller, s: Shadow) -> Taken
 {
     match s {
         Shadow::Unseeded => {
-            let q = start(cfg, d, r);
+            let q = starting::start(cfg, d, r);
             let none = Events::none();
             Taken {
                 rec: q,

@@ -6,32 +6,7 @@ use records::Answer;
 use records::Config;
 use records::Controller;
 use records::Readings;
-use records::Settings;
 use units::Hundredths;
-
-fn bars_min_heat(cfg: Config, s: Settings, v: Hundredths) -> bool
-    ensures { λ r. ⌜ r ≡ spec.barsMinHeat cfg s v ⌝ }
-{
-    let inside = ranges::is_within(v, cfg.absminheat, s.maxheat);
-    let auto = served::auto(cfg);
-    let near = units::is_above(
-        v,
-        units::sub(limits::min_cool_setpoint(cfg, s), limits::dead_band(cfg)),
-    );
-    !inside | (auto & near)
-}
-
-fn bars_max_heat(cfg: Config, s: Settings, v: Hundredths) -> bool
-    ensures { λ r. ⌜ r ≡ spec.barsMaxHeat cfg s v ⌝ }
-{
-    let inside = ranges::is_within(v, s.minheat, cfg.absmaxheat);
-    let auto = served::auto(cfg);
-    let near = units::is_above(
-        v,
-        units::sub(limits::max_cool_setpoint(cfg, s), limits::dead_band(cfg)),
-    );
-    !inside | (auto & near)
-}
 
 pub fn write_min_heat_setpoint_limit(
     cfg: Config,
@@ -47,7 +22,7 @@ pub fn write_min_heat_setpoint_limit(
     if !served::serves(cfg, 0x15) {
         return orders::quiet_answer(24, r);
     }
-    if bars_min_heat(cfg, r.attrs.settings, v) {
+    if limit_rules::bars_min_heat(cfg, r.attrs.settings, v) {
         return orders::quiet_answer(22, r);
     }
     limit_stores::store_heat_limit(cfg, r, d, attrs::set_min_heat(r.attrs, v), 0x15)
@@ -67,7 +42,7 @@ pub fn write_max_heat_setpoint_limit(
     if !served::serves(cfg, 0x16) {
         return orders::quiet_answer(24, r);
     }
-    if bars_max_heat(cfg, r.attrs.settings, v) {
+    if limit_rules::bars_max_heat(cfg, r.attrs.settings, v) {
         return orders::quiet_answer(22, r);
     }
     limit_stores::store_heat_limit(cfg, r, d, attrs::set_max_heat(r.attrs, v), 0x16)

@@ -1,4 +1,4 @@
-// model/specs/Writes: the mode write, the control sequence; and arming.
+// model/specs/Writes: the mode write and the control sequence.
 ghost use mathlib.Core.Path.{_≡_};
 ghost use Rattle.model.specs.Answers.{answer};
 ghost use Rattle.model.specs.Writes as spec;
@@ -36,13 +36,4 @@ pub fn set_control_sequence_of_operation(cfg: Config, r: Controller, v: u8) -> A
         return orders::quiet_answer(28, r);
     }
     orders::quiet_answer(0, r)
-}
-
-pub fn arm_clock(cfg: Config, r: Controller, d: Readings) -> Answer
-    ensures { λ q. ⌜ q ≡ answer (spec.armClock cfg r d) ⌝ }
-{
-    if !sound::is_sound(cfg, r) {
-        return orders::quiet_answer(28, r);
-    }
-    orders::quiet_answer(0, attribution::arm_clock(cfg, d, r))
 }

@@ -27,5 +27,5 @@ pub fn seed_events(cfg: Config, r: Controller, d: Readings) -> Answer
     if !sound::is_sound(cfg, r) {
         return orders::quiet_answer(28, r);
     }
-    orders::quiet_answer(0, events::start(cfg, d, r))
+    orders::quiet_answer(0, starting::start(cfg, d, r))
 }

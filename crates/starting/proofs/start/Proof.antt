@@ -1,6 +1,6 @@
 use Rattle.model.specs.Sweep.{started}
-use Rattle.events.proofs.start.Statement.{statement}
-use Rattle.events.proofs.start.Tie as tie
+use Rattle.starting.proofs.start.Statement.{statement}
+use Rattle.starting.proofs.start.Tie as tie
 
 pub start-spec : {M : Type 1} → statement M
 unfolding started

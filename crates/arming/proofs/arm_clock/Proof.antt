@@ -2,8 +2,8 @@ use mathlib.Core.Path.{_∙_, sym, ap}
 use mathlib.Core.Bool.{not}
 use Rattle.model.specs.Refusals.{unless}
 use Rattle.model.specs.Writes.{armClock}
-use Rattle.mode_writes.proofs.arm_clock.Statement.{statement}
-use Rattle.mode_writes.proofs.arm_clock.Tie as tie
+use Rattle.arming.proofs.arm_clock.Statement.{statement}
+use Rattle.arming.proofs.arm_clock.Tie as tie
 
 pub arm-clock-spec : {M : Type 1} → statement M
 unfolding armClock unless

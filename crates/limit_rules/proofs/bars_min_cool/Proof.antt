@@ -1,5 +1,5 @@
-use Rattle.cool_limit_writes.proofs.bars_min_cool.Statement.{statement}
-use Rattle.cool_limit_writes.proofs.bars_min_cool.Tie as tie
+use Rattle.limit_rules.proofs.bars_min_cool.Statement.{statement}
+use Rattle.limit_rules.proofs.bars_min_cool.Tie as tie
 
 pub bars-min-cool-spec : {M : Type 1} → statement M
 bars-min-cool-spec =
