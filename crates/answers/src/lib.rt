@@ -9,7 +9,7 @@ use records::Events;
 use records::Notices;
 
 // A full array is left alone; the laws of model show that none is ever full.
-pub fn push(n: Notices, code: u16) -> Notices
+fn push(n: Notices, code: u16) -> Notices
     ensures { λ r. ⌜ r ≡ pushed n code ⌝ }
 {
     let at = n.len;

@@ -1,6 +1,6 @@
 // model/specs/Records: single stores, each of which sets the dirty mark if it changes something.
 ghost use mathlib.Core.Path.{_≡_};
-ghost use Rattle.records.specs.Records.{withAttrs, withPending, setHeating, setCooling, setMinHeat, setMaxHeat, setMinCool, setMaxCool, setMode, setLimits};
+ghost use Rattle.records.specs.Records.{withAttrs, setHeating, setCooling, setMinHeat, setMaxHeat, setMinCool, setMaxCool, setMode};
 use records::Attrs;
 use records::Controller;
 use units::Hundredths;
@@ -89,43 +89,10 @@ pub fn set_mode(a: Attrs, v: u8) -> Attrs
     }
 }
 
-// The four limits in one store.
-pub fn set_limits(
-    a: Attrs,
-    minh: Hundredths,
-    maxh: Hundredths,
-    minc: Hundredths,
-    maxc: Hundredths,
-) -> Attrs
-    ensures { λ r. ⌜ r ≡ setLimits a minh maxh minc maxc ⌝ }
-{
-    let s1 = units::same(a.settings.minheat, minh);
-    let s2 = units::same(a.settings.maxheat, maxh);
-    let s3 = units::same(a.settings.mincool, minc);
-    let s4 = units::same(a.settings.maxcool, maxc);
-    let mut s = a.settings;
-    s.minheat = minh;
-    s.maxheat = maxh;
-    s.mincool = minc;
-    s.maxcool = maxc;
-    Attrs {
-        settings: s,
-        dirty: a.dirty | ((!s1 | !s2) | (!s3 | !s4)),
-    }
-}
-
 pub fn with_attrs(r: Controller, a: Attrs) -> Controller
     ensures { λ q. ⌜ q ≡ withAttrs r a ⌝ }
 {
     let mut q = r;
     q.attrs = a;
-    q
-}
-
-pub fn with_pending(r: Controller, p: u16) -> Controller
-    ensures { λ q. ⌜ q ≡ withPending r p ⌝ }
-{
-    let mut q = r;
-    q.pending = p;
     q
 }

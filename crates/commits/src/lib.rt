@@ -60,29 +60,17 @@ fn pick_last(t: bool, now: u64, last: Moment) -> Moment
 pub fn commit(cfg: Config, old: Snapshot, new: Snapshot, last: Moment, now: u64) -> EventState
     ensures { λ r. ⌜ r ≡ spec.committed cfg old new last now ⌝ }
 {
-    let told = event_conditions::tells_temperature(cfg, old, new, last, now);
+    let told = event_conditions::judge(cfg, old, new, last, now);
     let setpoints = served::emits(cfg, 3);
     let a = new.temperature;
     let b = old.temperature;
-    let t = pick_temperature(told, a, b);
+    let t = pick_temperature(told.temperature, a, b);
     let h = pick_setpoint(setpoints, new.heating, old.heating);
     let c = pick_setpoint(setpoints, new.cooling, old.cooling);
-    let m = pick_byte(
-        event_conditions::tells_mode(cfg, old, new),
-        new.mode,
-        old.mode,
-    );
-    let r = pick_relays(
-        event_conditions::tells_relays(cfg, old, new),
-        new.relays,
-        old.relays,
-    );
-    let k = pick_byte(
-        event_conditions::tells_running_mode(cfg, old, new),
-        new.runningmode,
-        old.runningmode,
-    );
-    let l = pick_last(told, now, last);
+    let m = pick_byte(told.mode, new.mode, old.mode);
+    let r = pick_relays(told.relays, new.relays, old.relays);
+    let k = pick_byte(told.runningmode, new.runningmode, old.runningmode);
+    let l = pick_last(told.temperature, now, last);
     let s = Snapshot {
         temperature: t,
         heating: h,

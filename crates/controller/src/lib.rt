@@ -24,25 +24,25 @@ pub fn step(cfg: Config, rec: Controller, d: Readings, call: Call) -> Answer
             d,
             v,
         ),
-        Call::WriteMinHeatSetpointLimit(v) => heat_limit_writes::write_min_heat_setpoint_limit(
+        Call::WriteMinHeatSetpointLimit(v) => limit_writes::write_min_heat_setpoint_limit(
             cfg,
             rec,
             d,
             v,
         ),
-        Call::WriteMaxHeatSetpointLimit(v) => heat_limit_writes::write_max_heat_setpoint_limit(
+        Call::WriteMaxHeatSetpointLimit(v) => limit_writes::write_max_heat_setpoint_limit(
             cfg,
             rec,
             d,
             v,
         ),
-        Call::WriteMinCoolSetpointLimit(v) => cool_limit_writes::write_min_cool_setpoint_limit(
+        Call::WriteMinCoolSetpointLimit(v) => limit_writes::write_min_cool_setpoint_limit(
             cfg,
             rec,
             d,
             v,
         ),
-        Call::WriteMaxCoolSetpointLimit(v) => cool_limit_writes::write_max_cool_setpoint_limit(
+        Call::WriteMaxCoolSetpointLimit(v) => limit_writes::write_max_cool_setpoint_limit(
             cfg,
             rec,
             d,
@@ -68,11 +68,4 @@ pub fn step(cfg: Config, rec: Controller, d: Readings, call: Call) -> Answer
         Call::Timer => timer::timer(cfg, rec, d),
         Call::Deadline => deadline::deferred_local_temperature_deadline(cfg, rec, d),
     }
-}
-
-// The record that an answer holds.
-pub fn rec_of(a: Answer) -> Controller
-    ensures { λ q. ⌜ q ≡ a .rec ⌝ }
-{
-    a.rec
 }

@@ -5,7 +5,17 @@ use records::Config;
 use records::Moment;
 use records::Snapshot;
 
-pub fn tells_mode(cfg: Config, old: Snapshot, new: Snapshot) -> bool
+// Which changes are told, in the order of their events.
+pub struct Told {
+    pub mode: bool,
+    pub temperature: bool,
+    pub cooling: bool,
+    pub heating: bool,
+    pub relays: bool,
+    pub runningmode: bool,
+}
+
+fn tells_mode(cfg: Config, old: Snapshot, new: Snapshot) -> bool
     ensures { λ r. ⌜ r ≡ spec.tellsMode cfg old new ⌝ }
 {
     let emits = served::emits(cfg, 0);
@@ -13,7 +23,7 @@ pub fn tells_mode(cfg: Config, old: Snapshot, new: Snapshot) -> bool
     emits & !same
 }
 
-pub fn tells_temperature(cfg: Config, old: Snapshot, new: Snapshot, last: Moment, now: u64) -> bool
+fn tells_temperature(cfg: Config, old: Snapshot, new: Snapshot, last: Moment, now: u64) -> bool
     ensures { λ r. ⌜ r ≡ spec.tellsTemperature cfg old new last now ⌝ }
 {
     let emits = served::emits(cfg, 1);
@@ -23,7 +33,7 @@ pub fn tells_temperature(cfg: Config, old: Snapshot, new: Snapshot, last: Moment
     emits & due
 }
 
-pub fn tells_cooling(cfg: Config, old: Snapshot, new: Snapshot) -> bool
+fn tells_cooling(cfg: Config, old: Snapshot, new: Snapshot) -> bool
     ensures { λ r. ⌜ r ≡ spec.tellsCooling cfg old new ⌝ }
 {
     let emits = served::emits(cfg, 3);
@@ -32,7 +42,7 @@ pub fn tells_cooling(cfg: Config, old: Snapshot, new: Snapshot) -> bool
     emits & (cools & !same)
 }
 
-pub fn tells_heating(cfg: Config, old: Snapshot, new: Snapshot) -> bool
+fn tells_heating(cfg: Config, old: Snapshot, new: Snapshot) -> bool
     ensures { λ r. ⌜ r ≡ spec.tellsHeating cfg old new ⌝ }
 {
     let emits = served::emits(cfg, 3);
@@ -41,7 +51,7 @@ pub fn tells_heating(cfg: Config, old: Snapshot, new: Snapshot) -> bool
     emits & (heats & !same)
 }
 
-pub fn tells_relays(cfg: Config, old: Snapshot, new: Snapshot) -> bool
+fn tells_relays(cfg: Config, old: Snapshot, new: Snapshot) -> bool
     ensures { λ r. ⌜ r ≡ spec.tellsRelays cfg old new ⌝ }
 {
     let emits = served::emits(cfg, 4);
@@ -49,10 +59,23 @@ pub fn tells_relays(cfg: Config, old: Snapshot, new: Snapshot) -> bool
     emits & !same
 }
 
-pub fn tells_running_mode(cfg: Config, old: Snapshot, new: Snapshot) -> bool
+fn tells_running_mode(cfg: Config, old: Snapshot, new: Snapshot) -> bool
     ensures { λ r. ⌜ r ≡ spec.tellsRunningMode cfg old new ⌝ }
 {
     let emits = served::emits(cfg, 5);
     let same = old.runningmode == new.runningmode;
     emits & !same
+}
+
+pub fn judge(cfg: Config, old: Snapshot, new: Snapshot, last: Moment, now: u64) -> Told
+    ensures { λ r. ⌜ r ≡ record { mode = spec.tellsMode cfg old new; temperature = spec.tellsTemperature cfg old new last now; cooling = spec.tellsCooling cfg old new; heating = spec.tellsHeating cfg old new; relays = spec.tellsRelays cfg old new; runningmode = spec.tellsRunningMode cfg old new } ⌝ }
+{
+    Told {
+        mode: tells_mode(cfg, old, new),
+        temperature: tells_temperature(cfg, old, new, last, now),
+        cooling: tells_cooling(cfg, old, new),
+        heating: tells_heating(cfg, old, new),
+        relays: tells_relays(cfg, old, new),
+        runningmode: tells_running_mode(cfg, old, new),
+    }
 }

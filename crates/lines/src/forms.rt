@@ -87,12 +87,20 @@ pub const OOB_RUNNING: usize = 22;
 
 pub const OOB_UPDATE: usize = 23;
 
+// A byte of the table, and a dot outside it.
+fn cell(row: usize, i: usize) -> u8 {
+    if row < ROWS {
+        if i < 32 {
+            return FORMS[row][i];
+        }
+    }
+    b'.'
+}
+
 // The letter at place `i` of a row, and a dot past the last.
 pub(crate) fn letter(row: usize, i: usize) -> u8 {
-    if row < ROWS {
-        if i < NUMBERS {
-            return FORMS[row][WORD + i];
-        }
+    if i < NUMBERS {
+        return cell(row, WORD + i);
     }
     b'.'
 }
@@ -107,15 +115,12 @@ fn filled(word: &[u8], i: usize) -> u8 {
 
 // Whether a word, in which there is no blank, is a row's first word.
 fn is_first(word: &[u8], row: usize) -> bool {
-    if ROWS <= row {
-        return false;
-    }
     if WORD < word.len() {
         return false;
     }
     let mut i: usize = 0;
     while i < WORD {
-        if FORMS[row][i] != filled(word, i) {
+        if cell(row, i) != filled(word, i) {
             return false;
         }
         i += 1;

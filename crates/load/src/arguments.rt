@@ -33,7 +33,7 @@ fn number(word: &[u8]) -> Read
 }
 
 // An argument that is missing, or longer than 20 bytes, reads as an empty word.
-pub fn argument(i: usize) -> Read
+pub(crate) fn argument(i: usize) -> Read
     ensures { λ r. ⌜ Below r ⌝ }
 {
     let mut word = [0u8; 20];

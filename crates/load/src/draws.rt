@@ -100,7 +100,7 @@ fn limits(s: u32) -> Drawn
 }
 
 // The kind first, then its fields.
-pub fn draw(s: u32) -> Drawn
+pub(crate) fn draw(s: u32) -> Drawn
     ensures { λ r. ⌜ r ≡ drawOf s ⌝ }
 {
     let t = next(s);

@@ -159,7 +159,7 @@ fn next_place(place: u8) -> u8
     place + 1
 }
 
-pub fn run(count: u64, seed: u32) -> Load
+pub(crate) fn run(count: u64, seed: u32) -> Load
     requires { ⌜ count < 1000000000000000 ⌝ }
     ensures { λ r. ⌜ r ≡ loadOf seed (turnsOf count) ⌝ }
 {

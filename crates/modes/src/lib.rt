@@ -37,7 +37,7 @@ fn bits_if(t: bool, bits: u16) -> u16
     0
 }
 
-pub fn relay_mask(cfg: Config) -> u16
+fn relay_mask(cfg: Config) -> u16
     ensures { λ r. ⌜ r ≡ relayMask cfg ⌝ }
 {
     let heat = bits_if(sequence_heats(cfg), 0x09);

@@ -1,6 +1,7 @@
 // model/specs/Orders: the plant order, and the sweep it asks for.
 ghost use mathlib.Core.Path.{_≡_};
 ghost use Rattle.model.specs.Answers.{answer, quiet};
+ghost use Rattle.model.specs.Served.{emitsAny};
 ghost use Rattle.model.specs.Orders.{orderOf, askSweep};
 use records::Answer;
 use records::Config;
@@ -19,11 +20,17 @@ pub fn order_of(s: Settings) -> Order
     Order::Apply(s.mode, h, c)
 }
 
+fn emits_any(cfg: Config) -> bool
+    ensures { λ r. ⌜ r ≡ emitsAny cfg ⌝ }
+{
+    cfg.events != 0
+}
+
 // Bit 9, if any event is served.
 pub fn ask_sweep(cfg: Config, r: Controller) -> Controller
     ensures { λ q. ⌜ q ≡ askSweep cfg r ⌝ }
 {
-    if served::emits_any(cfg) {
+    if emits_any(cfg) {
         let mut q = r;
         q.pending = r.pending | 0x200;
         return q;

@@ -1,28 +1,83 @@
 // An answer as a line of output.
 ghost use Rattle.text.specs.Pages.{Room, Within};
+use records::Amount;
 use records::Answer;
 use records::Attributed;
 use records::Attrs;
 use records::Controller;
 use records::EventState;
+use records::Moment;
 use records::Order;
+use records::Second;
 use records::SetpointChangeState;
 use records::Settings;
 use records::Shadow;
 use records::Snapshot;
+use records::Temperature;
 use text::Page;
+use text::Value;
+use units::Hundredths;
+
+fn temperature(t: Temperature) -> Value {
+    match t {
+        Temperature::NoReading => Value::Absent,
+        Temperature::Reading(v) => Value::Degrees(v),
+    }
+}
+
+fn amount(m: Amount) -> Value {
+    match m {
+        Amount::NoAmount => Value::Absent,
+        Amount::Moved(v) => Value::Degrees(v),
+    }
+}
+
+fn second(s: Second) -> Value {
+    match s {
+        Second::NoSecond => Value::Absent,
+        Second::At(n) => Value::Number(n as u64),
+    }
+}
+
+fn moment(m: Moment) -> Value {
+    match m {
+        Moment::Never => Value::Absent,
+        Moment::Ms(n) => Value::Number(n),
+    }
+}
+
+fn mark(t: bool) -> Value {
+    if t {
+        return Value::Number(1);
+    }
+    Value::Number(0)
+}
+
+fn number(page: &mut Page, at: usize, name: usize, n: u64) -> usize
+    requires { ⌜ Room at 32 ⌝ }
+    ensures { λ r. ⌜ Within at 32 r ⌝ }
+{
+    text::field(page, at, name, Value::Number(n))
+}
+
+fn degrees(page: &mut Page, at: usize, name: usize, v: Hundredths) -> usize
+    requires { ⌜ Room at 32 ⌝ }
+    ensures { λ r. ⌜ Within at 32 r ⌝ }
+{
+    text::field(page, at, name, Value::Degrees(v))
+}
 
 fn settings(page: &mut Page, at: usize, s: Settings) -> usize
     requires { ⌜ Room at 224 ⌝ }
     ensures { λ r. ⌜ Within at 224 r ⌝ }
 {
-    let a = text::degrees(page, at, b" h=", s.heating);
-    let a = text::degrees(page, a, b" c=", s.cooling);
-    let a = text::degrees(page, a, b" minh=", s.minheat);
-    let a = text::degrees(page, a, b" maxh=", s.maxheat);
-    let a = text::degrees(page, a, b" minc=", s.mincool);
-    let a = text::degrees(page, a, b" maxc=", s.maxcool);
-    text::number(page, a, b" mode=", s.mode as u64)
+    let a = degrees(page, at, text::HEATING, s.heating);
+    let a = degrees(page, a, text::COOLING, s.cooling);
+    let a = degrees(page, a, text::MIN_HEAT, s.minheat);
+    let a = degrees(page, a, text::MAX_HEAT, s.maxheat);
+    let a = degrees(page, a, text::MIN_COOL, s.mincool);
+    let a = degrees(page, a, text::MAX_COOL, s.maxcool);
+    number(page, a, text::MODE, s.mode as u64)
 }
 
 fn attrs(page: &mut Page, at: usize, s: Attrs) -> usize
@@ -30,19 +85,7 @@ fn attrs(page: &mut Page, at: usize, s: Attrs) -> usize
     ensures { λ r. ⌜ Within at 256 r ⌝ }
 {
     let a = settings(page, at, s.settings);
-    if s.dirty {
-        return text::text(page, a, b" dirty=1");
-    }
-    text::text(page, a, b" dirty=0")
-}
-
-fn equipment(page: &mut Page, at: usize, mode: u8, relays: u16, runningmode: u8) -> usize
-    requires { ⌜ Room at 96 ⌝ }
-    ensures { λ r. ⌜ Within at 96 r ⌝ }
-{
-    let a = text::number(page, at, b"/", mode as u64);
-    let a = text::number(page, a, b"/", relays as u64);
-    text::number(page, a, b"/", runningmode as u64)
+    text::field(page, a, text::DIRTY, mark(s.dirty))
 }
 
 fn snapshot(page: &mut Page, at: usize, s: Snapshot) -> usize
@@ -50,10 +93,12 @@ fn snapshot(page: &mut Page, at: usize, s: Snapshot) -> usize
     ensures { λ r. ⌜ Within at 192 r ⌝ }
 {
     let t = s.temperature;
-    let a = text::temperature(page, at, b" shadow=", t);
-    let a = text::degrees(page, a, b"/", s.heating);
-    let a = text::degrees(page, a, b"/", s.cooling);
-    equipment(page, a, s.mode, s.relays, s.runningmode)
+    let a = text::field(page, at, text::SHADOW, temperature(t));
+    let a = degrees(page, a, text::SLASH, s.heating);
+    let a = degrees(page, a, text::SLASH, s.cooling);
+    let a = number(page, a, text::SLASH, s.mode as u64);
+    let a = number(page, a, text::SLASH, s.relays as u64);
+    number(page, a, text::SLASH, s.runningmode as u64)
 }
 
 fn shadow(page: &mut Page, at: usize, s: Shadow) -> usize
@@ -61,7 +106,7 @@ fn shadow(page: &mut Page, at: usize, s: Shadow) -> usize
     ensures { λ r. ⌜ Within at 192 r ⌝ }
 {
     match s {
-        Shadow::Unseeded => text::text(page, at, b" shadow=-"),
+        Shadow::Unseeded => text::field(page, at, text::SHADOW, Value::Absent),
         Shadow::Seeded(n) => snapshot(page, at, n),
     }
 }
@@ -73,7 +118,7 @@ fn event_state(page: &mut Page, at: usize, s: EventState) -> usize
     let n = s.shadow;
     let a = shadow(page, at, n);
     let m = s.last;
-    text::moment(page, a, b" last=", m)
+    text::field(page, a, text::LAST, moment(m))
 }
 
 fn attributed(page: &mut Page, at: usize, p: Attributed) -> usize
@@ -81,10 +126,10 @@ fn attributed(page: &mut Page, at: usize, p: Attributed) -> usize
     ensures { λ r. ⌜ Within at 64 r ⌝ }
 {
     match p {
-        Attributed::Unclaimed => text::text(page, at, b" att=-"),
+        Attributed::Unclaimed => text::field(page, at, text::ATTRIBUTED, Value::Absent),
         Attributed::Claimed(h, c) => {
-            let a = text::degrees(page, at, b" att=", h);
-            text::degrees(page, a, b"/", c)
+            let a = degrees(page, at, text::ATTRIBUTED, h);
+            degrees(page, a, text::SLASH, c)
         }
     }
 }
@@ -93,14 +138,14 @@ fn change(page: &mut Page, at: usize, s: SetpointChangeState) -> usize
     requires { ⌜ Room at 192 ⌝ }
     ensures { λ r. ⌜ Within at 192 r ⌝ }
 {
-    let a = text::number(page, at, b" src=", s.source as u64);
+    let a = number(page, at, text::SOURCE, s.source as u64);
     let m = s.amount;
-    let a = text::amount(page, a, b" amt=", m);
-    let a = text::number(page, a, b" ts=", s.timestamp as u64);
+    let a = text::field(page, a, text::AMOUNT, amount(m));
+    let a = number(page, a, text::TIMESTAMP, s.timestamp as u64);
     let p = s.attributed;
     let a = attributed(page, a, p);
     let n = s.armed;
-    text::second(page, a, b" armed=", n)
+    text::field(page, a, text::ARMED, second(n))
 }
 
 fn order(page: &mut Page, at: usize, o: Order) -> usize
@@ -108,11 +153,11 @@ fn order(page: &mut Page, at: usize, o: Order) -> usize
     ensures { λ r. ⌜ Within at 96 r ⌝ }
 {
     match o {
-        Order::NoOrder => text::text(page, at, b" order=-"),
+        Order::NoOrder => text::field(page, at, text::ORDER, Value::Absent),
         Order::Apply(mode, h, c) => {
-            let a = text::number(page, at, b" order=", mode as u64);
-            let a = text::degrees(page, a, b"/", h);
-            text::degrees(page, a, b"/", c)
+            let a = number(page, at, text::ORDER, mode as u64);
+            let a = degrees(page, a, text::SLASH, h);
+            degrees(page, a, text::SLASH, c)
         }
     }
 }
@@ -123,7 +168,7 @@ fn record(page: &mut Page, at: usize, r: Controller) -> usize
 {
     let s = r.attrs;
     let a = attrs(page, at, s);
-    let a = text::number(page, a, b" pend=", r.pending as u64);
+    let a = number(page, a, text::PENDING, r.pending as u64);
     let e = r.events;
     let a = event_state(page, a, e);
     let c = r.change;
@@ -132,10 +177,10 @@ fn record(page: &mut Page, at: usize, r: Controller) -> usize
 
 // The answer of a call or an opening, without its newline.
 pub fn answer(page: &mut Page, at: usize, a: Answer) -> usize
-    requires { ⌜ Room at 2004 ⌝ }
-    ensures { λ r. ⌜ Within at 2004 r ⌝ }
+    requires { ⌜ Room at 2208 ⌝ }
+    ensures { λ r. ⌜ Within at 2208 r ⌝ }
 {
-    let b = text::decimal(page, at, a.number as u64);
+    let b = number(page, at, text::NONE, a.number as u64);
     let r = a.rec;
     let b = record(page, b, r);
     let o = a.order;

@@ -1,6 +1,7 @@
 // model/specs/Writes: the sides that raise/lower moves.
 ghost use mathlib.Core.Path.{_≡_};
 ghost use mathlib.Core.Bool.{cond};
+ghost use Rattle.units.specs.Units.{raised};
 ghost use Rattle.model.specs.Answers.{unchanged};
 ghost use Rattle.model.specs.Writes as spec;
 ghost use Rattle.stages.specs.Stages.{staged};
@@ -9,13 +10,21 @@ use records::Controller;
 use records::Notices;
 use records::Readings;
 use stages::Stage;
+use units::Hundredths;
 use units::Tenths;
+
+// A setpoint moved by a signed amount of tenths, and clamped.
+fn raise(v: Hundredths, amount: Tenths, lo: Hundredths, hi: Hundredths) -> Hundredths
+    ensures { λ r. ⌜ r ≡ raised v amount lo hi ⌝ }
+{
+    ranges::clamp(units::add(v, units::in_hundredths(amount)), lo, hi)
+}
 
 fn raise_heating(cfg: Config, r: Controller, n: Notices, d: Readings, amount: Tenths) -> Stage
     ensures { λ q. ⌜ q ≡ staged n (spec.raiseHeating cfg d amount r) ⌝ }
 {
     let s = r.attrs.settings;
-    let v = ranges::raise(
+    let v = raise(
         s.heating,
         amount,
         limits::min_heat_setpoint(cfg, s),
@@ -28,7 +37,7 @@ fn raise_cooling(cfg: Config, r: Controller, n: Notices, d: Readings, amount: Te
     ensures { λ q. ⌜ q ≡ staged n (spec.raiseCooling cfg d amount r) ⌝ }
 {
     let s = r.attrs.settings;
-    let v = ranges::raise(
+    let v = raise(
         s.cooling,
         amount,
         limits::min_cool_setpoint(cfg, s),

@@ -1,11 +1,10 @@
-// Document 01, Units: the nearest number within limits, the greater and the lesser, what lies within, what lies apart.
+// Document 01, Units: the nearest number within limits, the greater and the lesser, what lies within.
 ghost use mir.Syntax.{w16};
 ghost use mir.Val.{SFits};
 ghost use mathlib.Core.Path.{_≡_};
 ghost use lib.Signed.{ltZ};
-ghost use Rattle.units.specs.Units.{hundredths, less, below, above, greater, lesser, clamped, saturatedDifference, within, raised, apart};
+ghost use Rattle.units.specs.Units.{hundredths, less, below, above, greater, lesser, clamped, saturatedDifference, within};
 use units::Hundredths;
-use units::Tenths;
 use units::Wide;
 
 fn is_wide_less(a: Wide, b: Wide) -> bool
@@ -69,21 +68,4 @@ pub fn is_within(v: Hundredths, lo: Hundredths, hi: Hundredths) -> bool
         return false;
     }
     !units::is_less(hi, v)
-}
-
-// A setpoint moved by a signed amount of tenths, and clamped.
-pub fn raise(v: Hundredths, amount: Tenths, lo: Hundredths, hi: Hundredths) -> Hundredths
-    ensures { λ r. ⌜ r ≡ raised v amount lo hi ⌝ }
-{
-    clamp(units::add(v, units::in_hundredths(amount)), lo, hi)
-}
-
-// Whether two numbers differ by at least `d`.
-pub fn are_apart(a: Hundredths, b: Hundredths, d: Hundredths) -> bool
-    ensures { λ r. ⌜ r ≡ apart a b d ⌝ }
-{
-    let x = units::sub(a, b);
-    let y = units::sub(b, a);
-    let u = max(x, y);
-    !units::is_above(d, u)
 }

@@ -27,35 +27,12 @@ pub fn events_of(cfg: Config, old: Snapshot, new: Snapshot, last: Moment, now: u
     let newh = new.heating;
     let oldc = old.cooling;
     let newc = new.cooling;
+    let told = event_conditions::judge(cfg, old, new, last, now);
     let e0 = Events::none();
-    let e1 = emit_if(
-        e0,
-        event_conditions::tells_mode(cfg, old, new),
-        Event::SystemModeChange(old.mode, new.mode),
-    );
-    let e2 = emit_if(
-        e1,
-        event_conditions::tells_temperature(cfg, old, new, last, now),
-        Event::LocalTemperatureChange(t),
-    );
-    let e3 = emit_if(
-        e2,
-        event_conditions::tells_cooling(cfg, old, new),
-        Event::SetpointChange(3, oldc, newc),
-    );
-    let e4 = emit_if(
-        e3,
-        event_conditions::tells_heating(cfg, old, new),
-        Event::SetpointChange(4, oldh, newh),
-    );
-    let e5 = emit_if(
-        e4,
-        event_conditions::tells_relays(cfg, old, new),
-        Event::RunningStateChange(old.relays, new.relays),
-    );
-    emit_if(
-        e5,
-        event_conditions::tells_running_mode(cfg, old, new),
-        Event::RunningModeChange(old.runningmode, new.runningmode),
-    )
+    let e1 = emit_if(e0, told.mode, Event::SystemModeChange(old.mode, new.mode));
+    let e2 = emit_if(e1, told.temperature, Event::LocalTemperatureChange(t));
+    let e3 = emit_if(e2, told.cooling, Event::SetpointChange(3, oldc, newc));
+    let e4 = emit_if(e3, told.heating, Event::SetpointChange(4, oldh, newh));
+    let e5 = emit_if(e4, told.relays, Event::RunningStateChange(old.relays, new.relays));
+    emit_if(e5, told.runningmode, Event::RunningModeChange(old.runningmode, new.runningmode))
 }

@@ -1,10 +1,10 @@
 // model/specs/Served: what a configuration lists.
 ghost use mathlib.Core.Path.{_≡_};
-ghost use mathlib.Core.Bool.{_&&_, _||_};
+ghost use mathlib.Core.Bool.{_&&_};
 ghost use Rattle.model.specs.Served as spec;
 use records::Config;
 
-pub fn supports_feature(cfg: Config, feature: u32) -> bool
+fn supports_feature(cfg: Config, feature: u32) -> bool
     ensures { λ r. ⌜ r ≡ spec.supports cfg feature ⌝ }
 {
     cfg.features & feature != 0
@@ -35,13 +35,6 @@ pub fn hides_temperature(cfg: Config) -> bool
     supports_feature(cfg, 0x40)
 }
 
-// TEVT
-pub fn tells_events(cfg: Config) -> bool
-    ensures { λ r. ⌜ r ≡ spec.tellsEvents cfg ⌝ }
-{
-    supports_feature(cfg, 0x200)
-}
-
 // The bit of a code in a set.
 pub fn listed(set: u64, code: u16) -> bool
     ensures { λ r. ⌜ r ≡ spec.listed set code ⌝ }
@@ -64,12 +57,6 @@ pub fn emits(cfg: Config, code: u16) -> bool
     listed(cfg.events, code)
 }
 
-pub fn emits_any(cfg: Config) -> bool
-    ensures { λ r. ⌜ r ≡ spec.emitsAny cfg ⌝ }
-{
-    cfg.events != 0
-}
-
 fn all_four(a: bool, b: bool, c: bool, d: bool) -> bool
     ensures { λ r. ⌜ r ≡ (a && b) && (c && d) ⌝ }
 {
@@ -80,18 +67,6 @@ fn all_four(a: bool, b: bool, c: bool, d: bool) -> bool
         return false;
     }
     false
-}
-
-fn any_of_four(a: bool, b: bool, c: bool, d: bool) -> bool
-    ensures { λ r. ⌜ r ≡ (a || b) || (c || d) ⌝ }
-{
-    if a {
-        return true;
-    }
-    if b {
-        return true;
-    }
-    c || d
 }
 
 // The four limit attributes of heating: ABS minimum and maximum, minimum and maximum.
@@ -110,28 +85,6 @@ pub fn has_cool_limits(cfg: Config) -> bool
     ensures { λ r. ⌜ r ≡ spec.hasCoolLimits cfg ⌝ }
 {
     all_four(
-        serves(cfg, 0x05),
-        serves(cfg, 0x06),
-        serves(cfg, 0x17),
-        serves(cfg, 0x18),
-    )
-}
-
-pub fn has_some_heat_limit(cfg: Config) -> bool
-    ensures { λ r. ⌜ r ≡ spec.someHeatLimit cfg ⌝ }
-{
-    any_of_four(
-        serves(cfg, 0x03),
-        serves(cfg, 0x04),
-        serves(cfg, 0x15),
-        serves(cfg, 0x16),
-    )
-}
-
-pub fn has_some_cool_limit(cfg: Config) -> bool
-    ensures { λ r. ⌜ r ≡ spec.someCoolLimit cfg ⌝ }
-{
-    any_of_four(
         serves(cfg, 0x05),
         serves(cfg, 0x06),
         serves(cfg, 0x17),

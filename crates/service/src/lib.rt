@@ -8,10 +8,17 @@ use records::Config;
 use records::Controller;
 use records::Readings;
 
+// The record that an answer holds.
+fn rec_of(a: Answer) -> Controller
+    ensures { λ q. ⌜ q ≡ a .rec ⌝ }
+{
+    a.rec
+}
+
 pub fn serve(c: &mut Controller, cfg: Config, d: Readings, k: Call) -> Answer
     ensures { λ q. ⌜ (q ≡ answer (step cfg (now (c .entry)) d k)) × (now (c .exit) ≡ answer (step cfg (now (c .entry)) d k) .rec) ⌝ }
 {
     let a = controller::step(cfg, *c, d, k);
-    *c = controller::rec_of(a);
+    *c = rec_of(a);
     a
 }

@@ -2,10 +2,11 @@
 ghost use Prim.Native.Nat.{_≤_};
 ghost use lib.ListN.{length};
 ghost use mathlib.Core.Path.{_≡_};
-ghost use Rattle.session.specs.Sessions.{Sound, Placed};
+ghost use Rattle.sessions.specs.Sessions.{Sound, Placed};
 use crate::serve;
-use session::Held;
-use session::Session;
+use crate::state;
+use crate::Held;
+use crate::Session;
 use text::Page;
 
 fn lesser(a: usize, b: usize) -> usize
@@ -31,8 +32,9 @@ fn hold(s: Session, line: &mut Held, part: &[u8]) -> Session
     requires { ⌜ Sound s ⌝ }
     ensures { λ r. ⌜ Sound r ⌝ }
 {
-    let n = gather(line, s.held, part);
-    s.holding(n)
+    let mut t = s;
+    t.held = gather(line, s.held, part);
+    t
 }
 
 fn serve_if(is_whole: bool, s: Session, line: &mut Held, page: &mut Page) -> Session
@@ -70,10 +72,12 @@ fn read_some(s: Session, line: &mut Held, page: &mut Page) -> Session
     let got = libc::read(libc::STDIN_FILENO, &mut chunk);
     let n = io::count(got, &chunk);
     if n == 0 {
-        return s.reading_on(false);
+        let mut t = s;
+        t.reading = false;
+        return t;
     }
     let t = feed(s, &chunk[..n], line, page);
-    session::flush(t, page)
+    state::flush(t, page)
 }
 
 // Nothing says that the input ends, so the turns are counted down from a number that no run uses up.
@@ -105,10 +109,10 @@ fn serve_rest(s: Session, line: &mut Held, page: &mut Page) -> Session
 }
 
 // The whole of standard input. Its last line may lack the newline.
-pub fn run(line: &mut Held, page: &mut Page) -> Session
+pub(crate) fn run(line: &mut Held, page: &mut Page) -> Session
     ensures { λ r. ⌜ Placed r 0 0 ⌝ }
 {
-    let s = read_all(Session::new(), line, page);
+    let s = read_all(state::start(), line, page);
     let s = serve_rest(s, line, page);
-    session::flush(s, page)
+    state::flush(s, page)
 }

@@ -1,9 +1,24 @@
 // The console's session: lines of text from standard input, an answer a line to standard output.
 mod feed;
 mod serve;
+mod state;
 
-ghost use Rattle.session.specs.Sessions.{Placed};
-use session::Session;
+ghost use Rattle.sessions.specs.Sessions.{Placed};
+use records::Config;
+use records::Controller;
+
+// A line of more bytes than this less one is too long, so no more of it is kept.
+pub type Held = [u8; 251];
+
+// `line` lines are read. Of the next one `held` bytes are there, and of the page `filled` bytes are written.
+pub struct Session {
+    pub config: Config,
+    pub rec: Controller,
+    pub line: u64,
+    pub held: usize,
+    pub filled: usize,
+    pub reading: bool,
+}
 
 // At the end no part of a line is left unserved, and no part of an answer unwritten.
 pub fn run() -> Session

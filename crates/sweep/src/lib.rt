@@ -1,7 +1,7 @@
 // model/specs/Sweep: the sweep.
 ghost use mathlib.Core.Path.{_≡_};
 ghost use mathlib.Core.List.{[]};
-ghost use Rattle.records.specs.Records.{noEvents};
+ghost use Rattle.records.specs.Records.{noEvents, withPending};
 ghost use Rattle.model.specs.Answers.{answer};
 ghost use Rattle.records.specs.declared.Moment.the-variants.{Never};
 ghost use Rattle.records.specs.declared.Order.the-variants.{NoOrder};
@@ -40,6 +40,14 @@ fn answer_notices(r: Controller, n: Notices) -> Answer
     }
 }
 
+fn with_pending(r: Controller, p: u16) -> Controller
+    ensures { λ q. ⌜ q ≡ withPending r p ⌝ }
+{
+    let mut q = r;
+    q.pending = p;
+    q
+}
+
 // With nothing pending it changes nothing.
 fn sweep_pending(cfg: Config, d: Readings, r: Controller) -> Answer
     ensures { λ q. ⌜ q ≡ answer (spec.swept cfg d r) ⌝ }
@@ -48,7 +56,7 @@ fn sweep_pending(cfg: Config, d: Readings, r: Controller) -> Answer
         return orders::quiet_answer(0, r);
     }
     let n = notices::notify_pending(cfg, r.pending);
-    let q = attrs::with_pending(r, 0);
+    let q = with_pending(r, 0);
     if notices::is_pending(r.pending, 9) {
         return sweep_events(cfg, d, n, q);
     }

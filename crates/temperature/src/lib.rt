@@ -1,12 +1,23 @@
 // model/specs/Temperature: significance, the 60-second interval, LTNE.
 ghost use mathlib.Core.Path.{_≡_};
 ghost use Prim.Native.Nat.{_-_};
+ghost use Rattle.units.specs.Units.{apart};
 ghost use Rattle.model.specs.Temperature.{significant, intervalOver, eventDue, reportedTemperature};
 use records::Config;
 use records::Controller;
 use records::Moment;
 use records::Temperature;
 use units::Hundredths;
+
+// Whether two numbers differ by at least `d`.
+fn are_apart(a: Hundredths, b: Hundredths, d: Hundredths) -> bool
+    ensures { λ r. ⌜ r ≡ apart a b d ⌝ }
+{
+    let x = units::sub(a, b);
+    let y = units::sub(b, a);
+    let u = ranges::max(x, y);
+    !units::is_above(d, u)
+}
 
 pub fn local_temperature_change_significant(
     previous: Temperature,
@@ -22,7 +33,7 @@ pub fn local_temperature_change_significant(
         },
         Temperature::Reading(a) => match current {
             Temperature::NoReading => true,
-            Temperature::Reading(b) => ranges::are_apart(a, b, delta),
+            Temperature::Reading(b) => are_apart(a, b, delta),
         },
     }
 }

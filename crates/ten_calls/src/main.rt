@@ -78,25 +78,31 @@ fn call(n: u64, r: Controller, k: Call) -> Controller {
     print_line(n, controller::step(plant(), r, no_readings(), k))
 }
 
+// The calls after the opening.
+fn nth(n: u64) -> Call {
+    match n {
+        2 => Call::WriteOccupiedHeatingSetpoint(Hundredths(2100)),
+        3 => Call::WriteOccupiedHeatingSetpoint(Hundredths(2901)),
+        4 => Call::RaiseLowerSetpoint(2, Tenths(10)),
+        5 => Call::OutOfBand(OutOfBandMessage::OccupiedCoolingSetpoint(Hundredths(2300))),
+        6 => Call::WriteMaxCoolSetpointLimit(Hundredths(3100)),
+        7 => Call::WriteOccupiedCoolingSetpoint(Hundredths(2300)),
+        8 => Call::OutOfBand(OutOfBandMessage::SetpointLimits(
+            Hundredths(2000),
+            Hundredths(1000),
+            Hundredths(1600),
+            Hundredths(1600),
+        )),
+        9 => Call::RaiseLowerSetpoint(3, Tenths(10)),
+        _ => Call::RaiseLowerSetpoint(1, Tenths(-128)),
+    }
+}
+
 fn main() {
-    let r1 = print_line(1, opening::open(plant(), settings()));
-    let r2 = call(2, r1, Call::WriteOccupiedHeatingSetpoint(Hundredths(2100)));
-    let r3 = call(3, r2, Call::WriteOccupiedHeatingSetpoint(Hundredths(2901)));
-    let r4 = call(4, r3, Call::RaiseLowerSetpoint(2, Tenths(10)));
-    let r5 = call(
-        5,
-        r4,
-        Call::OutOfBand(OutOfBandMessage::OccupiedCoolingSetpoint(Hundredths(2300))),
-    );
-    let r6 = call(6, r5, Call::WriteMaxCoolSetpointLimit(Hundredths(3100)));
-    let r7 = call(7, r6, Call::WriteOccupiedCoolingSetpoint(Hundredths(2300)));
-    let limits = OutOfBandMessage::SetpointLimits(
-        Hundredths(2000),
-        Hundredths(1000),
-        Hundredths(1600),
-        Hundredths(1600),
-    );
-    let r8 = call(8, r7, Call::OutOfBand(limits));
-    let r9 = call(9, r8, Call::RaiseLowerSetpoint(3, Tenths(10)));
-    call(10, r9, Call::RaiseLowerSetpoint(1, Tenths(-128)));
+    let mut r = print_line(1, opening::open(plant(), settings()));
+    let mut n: u64 = 2;
+    while n < 11 {
+        r = call(n, r, nth(n));
+        n += 1;
+    }
 }

@@ -1,18 +1,92 @@
-// Text and numbers, written to a page of output from a place on. Each function answers the place after what it wrote.
+// A field of a line of output: a label and a value, written to a page from a place on. Answered is the place after it.
+mod labels;
 mod sizes;
 
 ghost use Prim.Native.Nat.{_+_, _≤_};
 ghost use mathlib.Core.Path.{_≡_};
 ghost use lib.ListN.{length};
 ghost use Rattle.text.specs.Pages.{Room, Within};
-use records::Amount;
-use records::Moment;
-use records::Second;
-use records::Temperature;
 use units::Hundredths;
 
 // Of output, as much as is written at a time.
 pub type Page = [u8; 65536];
+
+// What stands after a label.
+pub enum Value {
+    Empty,
+    // A dash.
+    Absent,
+    Number(u64),
+    Code(u64),
+    Degrees(Hundredths),
+}
+
+// The labels, by their places in the table.
+pub const NONE: usize = 0;
+
+pub const HEATING: usize = 1;
+
+pub const COOLING: usize = 2;
+
+pub const MIN_HEAT: usize = 3;
+
+pub const MAX_HEAT: usize = 4;
+
+pub const MIN_COOL: usize = 5;
+
+pub const MAX_COOL: usize = 6;
+
+pub const MODE: usize = 7;
+
+pub const DIRTY: usize = 8;
+
+pub const PENDING: usize = 9;
+
+pub const SHADOW: usize = 10;
+
+pub const LAST: usize = 11;
+
+pub const SOURCE: usize = 12;
+
+pub const AMOUNT: usize = 13;
+
+pub const TIMESTAMP: usize = 14;
+
+pub const ATTRIBUTED: usize = 15;
+
+pub const ARMED: usize = 16;
+
+pub const ORDER: usize = 17;
+
+pub const NOTICES: usize = 18;
+
+pub const EVENTS: usize = 19;
+
+pub const DEADLINE: usize = 20;
+
+pub const SYSTEM_MODE_CHANGE: usize = 21;
+
+pub const LOCAL_TEMPERATURE_CHANGE: usize = 22;
+
+pub const SETPOINT_CHANGE: usize = 23;
+
+pub const RUNNING_STATE_CHANGE: usize = 24;
+
+pub const RUNNING_MODE_CHANGE: usize = 25;
+
+pub const CLOSE: usize = 26;
+
+pub const COMMA: usize = 27;
+
+pub const SEMICOLON: usize = 28;
+
+pub const SLASH: usize = 29;
+
+pub const OK: usize = 30;
+
+pub const ERROR: usize = 31;
+
+pub const NEWLINE: usize = 32;
 
 fn paste(out: &mut [u8], at: usize, s: &[u8])
     requires { ⌜ at + length (now s) ≤ length (now out) ⌝ }
@@ -20,7 +94,7 @@ fn paste(out: &mut [u8], at: usize, s: &[u8])
     bytes::copy(s, &mut out[at..]);
 }
 
-pub fn text(page: &mut Page, at: usize, s: &[u8]) -> usize
+fn text(page: &mut Page, at: usize, s: &[u8]) -> usize
     requires { ⌜ Room at (length (now s)) ⌝ }
     ensures { λ r. ⌜ r ≡ at + length (now (s .entry)) ⌝ }
 {
@@ -28,7 +102,24 @@ pub fn text(page: &mut Page, at: usize, s: &[u8]) -> usize
     at + s.len()
 }
 
-pub fn decimal(page: &mut Page, at: usize, n: u64) -> usize
+// A row of the table, up to its tildes.
+fn trimmed(page: &mut Page, at: usize, row: &[u8]) -> usize
+    requires { ⌜ Room at (length (now row)) ⌝ }
+    ensures { λ r. ⌜ Within at (length (now (row .entry))) r ⌝ }
+{
+    let end = bytes::scan::find(row, 0, row.len(), b'~');
+    text(page, at, &row[0..end])
+}
+
+fn label(page: &mut Page, at: usize, i: usize) -> usize
+    requires { ⌜ Room at 10 ⌝ }
+    ensures { λ r. ⌜ Within at 10 r ⌝ }
+{
+    let row = labels::row(i);
+    trimmed(page, at, &row)
+}
+
+fn decimal(page: &mut Page, at: usize, n: u64) -> usize
     requires { ⌜ Room at 20 ⌝ }
     ensures { λ r. ⌜ Within at 20 r ⌝ }
 {
@@ -37,7 +128,7 @@ pub fn decimal(page: &mut Page, at: usize, n: u64) -> usize
     text(page, at, &digits[..k])
 }
 
-pub fn hex(page: &mut Page, at: usize, n: u64) -> usize
+fn hex(page: &mut Page, at: usize, n: u64) -> usize
     requires { ⌜ Room at 16 ⌝ }
     ensures { λ r. ⌜ Within at 16 r ⌝ }
 {
@@ -46,7 +137,7 @@ pub fn hex(page: &mut Page, at: usize, n: u64) -> usize
     text(page, at, &digits[..k])
 }
 
-pub fn hundredths(page: &mut Page, at: usize, v: Hundredths) -> usize
+fn degrees(page: &mut Page, at: usize, v: Hundredths) -> usize
     requires { ⌜ Room at 21 ⌝ }
     ensures { λ r. ⌜ Within at 21 r ⌝ }
 {
@@ -57,69 +148,23 @@ pub fn hundredths(page: &mut Page, at: usize, v: Hundredths) -> usize
     decimal(page, at, sizes::size(v))
 }
 
-// A name, at most ten bytes of it, and a number.
-pub fn number(page: &mut Page, at: usize, name: &[u8], n: u64) -> usize
-    requires { ⌜ length (now name) ≤ 10 ⌝ }
-    requires { ⌜ Room at 32 ⌝ }
-    ensures { λ r. ⌜ Within at 32 r ⌝ }
+fn put(page: &mut Page, at: usize, v: Value) -> usize
+    requires { ⌜ Room at 21 ⌝ }
+    ensures { λ r. ⌜ Within at 21 r ⌝ }
 {
-    let a = text(page, at, name);
-    decimal(page, a, n)
-}
-
-pub fn degrees(page: &mut Page, at: usize, name: &[u8], v: Hundredths) -> usize
-    requires { ⌜ length (now name) ≤ 10 ⌝ }
-    requires { ⌜ Room at 32 ⌝ }
-    ensures { λ r. ⌜ Within at 32 r ⌝ }
-{
-    let a = text(page, at, name);
-    hundredths(page, a, v)
-}
-
-pub fn temperature(page: &mut Page, at: usize, name: &[u8], t: Temperature) -> usize
-    requires { ⌜ length (now name) ≤ 10 ⌝ }
-    requires { ⌜ Room at 32 ⌝ }
-    ensures { λ r. ⌜ Within at 32 r ⌝ }
-{
-    let a = text(page, at, name);
-    match t {
-        Temperature::NoReading => text(page, a, b"-"),
-        Temperature::Reading(v) => hundredths(page, a, v),
+    match v {
+        Value::Empty => at,
+        Value::Absent => text(page, at, b"-"),
+        Value::Number(n) => decimal(page, at, n),
+        Value::Code(n) => hex(page, at, n),
+        Value::Degrees(h) => degrees(page, at, h),
     }
 }
 
-pub fn amount(page: &mut Page, at: usize, name: &[u8], m: Amount) -> usize
-    requires { ⌜ length (now name) ≤ 10 ⌝ }
+pub fn field(page: &mut Page, at: usize, name: usize, v: Value) -> usize
     requires { ⌜ Room at 32 ⌝ }
     ensures { λ r. ⌜ Within at 32 r ⌝ }
 {
-    let a = text(page, at, name);
-    match m {
-        Amount::NoAmount => text(page, a, b"-"),
-        Amount::Moved(v) => hundredths(page, a, v),
-    }
-}
-
-pub fn second(page: &mut Page, at: usize, name: &[u8], s: Second) -> usize
-    requires { ⌜ length (now name) ≤ 10 ⌝ }
-    requires { ⌜ Room at 32 ⌝ }
-    ensures { λ r. ⌜ Within at 32 r ⌝ }
-{
-    let a = text(page, at, name);
-    match s {
-        Second::NoSecond => text(page, a, b"-"),
-        Second::At(n) => decimal(page, a, n as u64),
-    }
-}
-
-pub fn moment(page: &mut Page, at: usize, name: &[u8], m: Moment) -> usize
-    requires { ⌜ length (now name) ≤ 10 ⌝ }
-    requires { ⌜ Room at 32 ⌝ }
-    ensures { λ r. ⌜ Within at 32 r ⌝ }
-{
-    let a = text(page, at, name);
-    match m {
-        Moment::Never => text(page, a, b"-"),
-        Moment::Ms(n) => decimal(page, a, n),
-    }
+    let a = label(page, at, name);
+    put(page, a, v)
 }

@@ -16,7 +16,7 @@ fn natural(a: Wide) -> u64
     x as u64
 }
 
-pub fn size(v: Hundredths) -> u64
+pub(crate) fn size(v: Hundredths) -> u64
     ensures { λ r. ⌜ r ≡ natAbs (v .0) ⌝ }
 {
     natural(ranges::max(units::widen(v), units::sub(Hundredths::ZERO, v)))

@@ -1,7 +1,8 @@
 // model/specs/Validation: rows 1 to 21, first failure wins.
 ghost use mathlib.Core.Path.{_≡_};
-ghost use mathlib.Core.Bool.{cond};
+ghost use mathlib.Core.Bool.{cond, _||_};
 ghost use Rattle.model.specs.Refusals.{thenRows};
+ghost use Rattle.model.specs.Served.{tellsEvents, someHeatLimit, someCoolLimit};
 ghost use Rattle.model.specs.Validation.{differ as differOf, featureRows, attributeRow, attributeRows, limitRows, eventRow, eventRows, numberRows, validated};
 use records::Config;
 use units::Hundredths;
@@ -22,6 +23,47 @@ fn differ(a: bool, b: bool) -> bool
         return !b;
     }
     b
+}
+
+fn any_of_four(a: bool, b: bool, c: bool, d: bool) -> bool
+    ensures { λ r. ⌜ r ≡ (a || b) || (c || d) ⌝ }
+{
+    if a {
+        return true;
+    }
+    if b {
+        return true;
+    }
+    c || d
+}
+
+fn has_some_heat_limit(cfg: Config) -> bool
+    ensures { λ r. ⌜ r ≡ someHeatLimit cfg ⌝ }
+{
+    any_of_four(
+        served::serves(cfg, 0x03),
+        served::serves(cfg, 0x04),
+        served::serves(cfg, 0x15),
+        served::serves(cfg, 0x16),
+    )
+}
+
+fn has_some_cool_limit(cfg: Config) -> bool
+    ensures { λ r. ⌜ r ≡ someCoolLimit cfg ⌝ }
+{
+    any_of_four(
+        served::serves(cfg, 0x05),
+        served::serves(cfg, 0x06),
+        served::serves(cfg, 0x17),
+        served::serves(cfg, 0x18),
+    )
+}
+
+// TEVT
+fn tells_events(cfg: Config) -> bool
+    ensures { λ r. ⌜ r ≡ tellsEvents cfg ⌝ }
+{
+    cfg.features & 0x200 != 0
 }
 
 // Rows 1 to 4.
@@ -71,8 +113,8 @@ fn validate_limit_sets(cfg: Config, rest: u8) -> u8
     let auto = served::auto(cfg);
     let heat = served::has_heat_limits(cfg);
     let cool = served::has_cool_limits(cfg);
-    let some_heat = served::has_some_heat_limit(cfg);
-    let some_cool = served::has_some_cool_limit(cfg);
+    let some_heat = has_some_heat_limit(cfg);
+    let some_cool = has_some_cool_limit(cfg);
     let running = served::serves(cfg, 0x1E);
     let n10 = row(10, running & !auto, rest);
     let n9 = row(9, auto & differ(heat, cool), n10);
@@ -85,7 +127,7 @@ fn validate_event(cfg: Config, code: u16, applies: bool, rest: u8) -> u8
     ensures { λ r. ⌜ r ≡ thenRows (eventRow cfg code applies) rest ⌝ }
 {
     let emits = served::emits(cfg, code);
-    let tells = served::tells_events(cfg);
+    let tells = tells_events(cfg);
     let n14 = row(14, tells & (applies & !emits), rest);
     let n13 = row(13, emits & !applies, n14);
     row(12, emits & !tells, n13)

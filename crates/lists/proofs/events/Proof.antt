@@ -1,4 +1,4 @@
--- `lists::events` meets its contract. The invariant: each item took at most 128 bytes. The measure is the items that are left.
+-- `lists::events` meets its contract. The invariant: each item took at most 160 bytes. The measure is the items that are left.
 -- Assumes nothing.
 use Prim.Native.Nat.{_+_, _*_, _-_, _≤_}
 use native.Mathlib.Omega.{arith}
@@ -7,7 +7,7 @@ use Rattle.lists.proofs.events.Statement.{statement}
 use Rattle.lists.proofs.events.Tie as tie
 
 abbrev Inv-loop : tie.InvT-loop
-Inv-loop page₀ at n count a₀ i₀ page a i = (i ≤ count) × (a ≤ at + 128 * i)
+Inv-loop page₀ at n count a₀ i₀ page a i = (i ≤ count) × (a ≤ at + 160 * i)
 
 abbrev μ-loop : tie.MeasureT-loop
 μ-loop page₀ at n count a₀ i₀ page a i = count - i
@@ -19,12 +19,12 @@ events-spec =
     Inv-loop
     μ-loop
     (λ c κs. tt)
-    (λ c. search needs)
-    (λ c κs. search needs)
-    (λ c. search needs)
+    (λ c κs. omega arith)
+    (λ c. omega arith)
     (λ c. omega arith)
     (λ c. search needs)
     (λ c. search needs)
+    (λ c κs. tt)
     (λ c κs. omega arith)
     (λ c. omega arith)
     (λ c. omega arith)

@@ -57,10 +57,10 @@ use Rattle.controller.proofs.step as step
 use Rattle.controller.proofs.step.Symbol as step-def
 use Rattle.controller.proofs.step.Symbol.{name as #controller·step}
 use Rattle.controller.proofs.step.Met as step-thm
-use Rattle.controller.proofs.rec_of as rec
-use Rattle.controller.proofs.rec_of.Symbol as rec-def
-use Rattle.controller.proofs.rec_of.Symbol.{name as #controller·rec-of}
-use Rattle.controller.proofs.rec_of.Met as rec-thm
+use Rattle.service.proofs.rec_of as rec
+use Rattle.service.proofs.rec_of.Symbol as rec-def
+use Rattle.service.proofs.rec_of.Symbol.{name as #service·rec-of}
+use Rattle.service.proofs.rec_of.Met as rec-thm
 use Rattle.service.proofs.serve.Key.{name as #service·serve}
 use Rattle.service.proofs.serve as f
 use Rattle.service.proofs.serve.Statement as stated
@@ -151,7 +151,7 @@ module _ {M : Type 1} (𝓤 : URA M) (H : Heap 𝓤) (A : Atoms 𝓤) (W : Given
   goes-rec : (r : Answer) (v : Val) → ent 𝓤 (sem 𝓤 H A (Ans.the-row .own r (v ∷ []))) (RecC 𝓤 H A at-mem run .pre (to-rec r v))
   goes-rec r v = qed W (‵ (Ans.the-row .own r (v ∷ [])) ∷ []) ∵ nothing ! $ move ! (1 ∷ 0 ∷ []) $ join ! $ nothing ! $ join ! $ frame ! $ done !
 
-  module _ (C : Calls 𝓤 H) (Λ : Loops 𝓤 H) (fm : FmC 𝓤 H (W .laws) C) (known-step : Triple 𝓤 (C #controller·step) (StepC 𝓤 H A at-mem run)) (known-rec : Triple 𝓤 (C #controller·rec-of) (RecC 𝓤 H A at-mem run)) where
+  module _ (C : Calls 𝓤 H) (Λ : Loops 𝓤 H) (fm : FmC 𝓤 H (W .laws) C) (known-step : Triple 𝓤 (C #controller·step) (StepC 𝓤 H A at-mem run)) (known-rec : Triple 𝓤 (C #service·rec-of) (RecC 𝓤 H A at-mem run)) where
     walk : ent 𝓤 (onEntry 𝓤 H A f.signature (κ, tt) (q, tt) x at) (WpFn 𝓤 H C Λ code.function (vptr b o ∷ val-cfg cfg ∷ val-d d ∷ val-k k ∷ []) Post)
     walk =
         qed W ((‵ (flft κ q) ⊛ ‵ ftrue) ∷ ‵ (owns (MutRef (named 0) κ Rec.the-row ∷ Cfg.the-row ∷ Rds.the-row ∷ Cal.the-row ∷ []) x at) ∷ []) ∵ split ! $ move ! (2 ∷ []) $ fsplit ! $ fsplit3 ! $ drop ! $ move ! (0 ∷ 1 ∷ 3 ∷ []) $
@@ -182,7 +182,7 @@ module _ {M : Type 1} (𝓤 : URA M) (H : Heap 𝓤) (A : Atoms 𝓤) (W : Given
         keep ! (0 ∷ 1 ∷ 2 ∷ []) $ by ! (exits r v h′ isR e₁ e₂))))))))))))))))))
 
 module _ {M : Type 1} (𝓤 : URA M) (H : Heap 𝓤) (A : Atoms 𝓤) (W : Given 𝓤 H A) (at-mem : Memory → SProp 𝓤) (run : Routine → Fun 𝓤) where
-  serve-walks : (C : Calls 𝓤 H) (Λ : Loops 𝓤 H) → FmC 𝓤 H (W .laws) C → Triple 𝓤 (C #controller·step) (StepC 𝓤 H A at-mem run) → Triple 𝓤 (C #controller·rec-of) (RecC 𝓤 H A at-mem run)
+  serve-walks : (C : Calls 𝓤 H) (Λ : Loops 𝓤 H) → FmC 𝓤 H (W .laws) C → Triple 𝓤 (C #controller·step) (StepC 𝓤 H A at-mem run) → Triple 𝓤 (C #service·rec-of) (RecC 𝓤 H A at-mem run)
       → Walks 𝓤 H A f.ended stayed (WpFn 𝓤 H C Λ code.function) (f.clauses 𝓤 H A at-mem run)
   serve-walks C Λ fm known-step known-rec = walked 𝓤 H A f.ended stayed (f.clauses 𝓤 H A at-mem run) (WpFn 𝓤 H C Λ code.function) (λ κs. (ptr-vals, (vals-cfg, (vals-d, (vals-k, tt))))) (λ κs. (mut-tells (named 0) (κs .0) Rec.the-row, (LS.tells Cfg.the-type Cfg′.the-laws, (LS.tells Rds.the-type Rds′.the-laws, (LE.tells Cal.the-type Cal′.the-laws, tt)))))
       (λ κs qs bounds a _ are. via 𝓤 _ (fst∗ 𝓤 _ (emp 𝓤)) (walk 𝓤 H A W at-mem run (κs .0) (qs .0) (a .0 .ptr .0) (a .0 .ptr .1) (a .0 .name) (a .0 .now) (a .1 .0) (a .1 .1 .0) (a .1 .1 .1 .0) (are .1 .0) (are .1 .1 .0) (are .1 .1 .1 .0) C Λ fm known-step known-rec))
@@ -191,7 +191,7 @@ module _ {M : Type 1} (𝓤 : URA M) (H : Heap 𝓤) (A : Atoms 𝓤) (W : Given
   goes = (goes-ref 𝓤 H A W 1 0 tt (plain (λ _. Rec.the-row)), (goes-none 𝓤 H A W 1 (λ _. Cfg.the-row) yes (λ κs x f. refl), (goes-none 𝓤 H A W 1 (λ _. Rds.the-row) yes (λ κs x f. refl), (goes-none 𝓤 H A W 1 (λ _. Cal.the-row) yes (λ κs x f. refl), tt))))
 
 serve-meets : {M : Type 1} (𝓤 : URA M) (H : Heap 𝓤) (A : Atoms 𝓤) (W : Given 𝓤 H A) (at-mem : Memory → SProp 𝓤) (run : Routine → Fun 𝓤) (𝓣 : Tables 𝓤 H)
-    → Triple 𝓤 (𝓣 .C #controller·step) (StepC 𝓤 H A at-mem run) → Triple 𝓤 (𝓣 .C #controller·rec-of) (RecC 𝓤 H A at-mem run)
+    → Triple 𝓤 (𝓣 .C #controller·step) (StepC 𝓤 H A at-mem run) → Triple 𝓤 (𝓣 .C #service·rec-of) (RecC 𝓤 H A at-mem run)
     → Meets 𝓤 H A f.signature (WpFn 𝓤 H (𝓣 .C) (𝓣 .Λ) code.function) (f.spec 𝓤 H A at-mem run)
 serve-meets 𝓤 H A W at-mem run 𝓣 known-step known-rec = walk-meets 𝓤 H A f.ended stayed W (goes 𝓤 H A W at-mem run) (f.clauses 𝓤 H A at-mem run) (WpFn 𝓤 H (𝓣 .C) (𝓣 .Λ) code.function) (WpFn-mono 𝓤 H (W .laws) 𝓣 code.function)
     (serve-walks 𝓤 H A W at-mem run (𝓣 .C) (𝓣 .Λ) (fmOf 𝓤 H (W .laws) 𝓣) known-step known-rec)
@@ -203,4 +203,4 @@ serve-spec 𝓤 H 𝓜 𝓖 𝓡 =
     (tables 𝓤 H 𝓜 𝓡 code.env .C) (tables 𝓤 H 𝓜 𝓡 code.env .Λ) #service·serve code.function (code.unfolded 𝓤 H 𝓜 𝓡)
     (serve-meets 𝓤 H (𝓖 .A) (givenOf 𝓤 H 𝓜 𝓖) (𝓜 .mem) (𝓡 .run) (tablesOf 𝓤 H 𝓜 (tables 𝓤 H 𝓜 𝓡 code.env))
     (cited 𝓤 H (StepC 𝓤 H (𝓖 .A) (𝓜 .mem) (𝓡 .run)) 𝓜 𝓡 code.env #controller·step step-def.routine code.calls-controller·step (step-thm.met 𝓤 H 𝓜 𝓖 𝓡))
-    (cited 𝓤 H (RecC 𝓤 H (𝓖 .A) (𝓜 .mem) (𝓡 .run)) 𝓜 𝓡 code.env #controller·rec-of rec-def.routine code.calls-controller·rec-of (rec-thm.met 𝓤 H 𝓜 𝓖 𝓡)))
+    (cited 𝓤 H (RecC 𝓤 H (𝓖 .A) (𝓜 .mem) (𝓡 .run)) 𝓜 𝓡 code.env #service·rec-of rec-def.routine code.calls-service·rec-of (rec-thm.met 𝓤 H 𝓜 𝓖 𝓡)))

@@ -1,7 +1,6 @@
 -- `lines::forms::is_first` is safe and ends. The measure is the bytes that are left. Assumes nothing.
 use Prim.Native.Nat.{_-_}
 use native.Mathlib.Omega.{arith}
-use borrow.Author.Needs.{needs}
 use Rattle.lines.proofs.forms.is_first.Statement.{statement}
 use Rattle.lines.proofs.forms.is_first.Tie as tie
 
@@ -19,10 +18,7 @@ is-first-spec =
     μ-loop
     (λ c. tt)
     (λ c. tt)
-    (λ c. tt)
-    (λ c. search needs)
-    (λ c. search needs)
-    (λ c. search needs)
+    (λ c κs. tt)
     (λ c κs. tt)
     (λ c. tt)
     (λ c. omega arith)
