@@ -33,6 +33,14 @@ pub fn events_of(cfg: Config, old: Snapshot, new: Snapshot, last: Moment, now: u
     let e2 = emit_if(e1, told.temperature, Event::LocalTemperatureChange(t));
     let e3 = emit_if(e2, told.cooling, Event::SetpointChange(3, oldc, newc));
     let e4 = emit_if(e3, told.heating, Event::SetpointChange(4, oldh, newh));
-    let e5 = emit_if(e4, told.relays, Event::RunningStateChange(old.relays, new.relays));
-    emit_if(e5, told.runningmode, Event::RunningModeChange(old.runningmode, new.runningmode))
+    let e5 = emit_if(
+        e4,
+        told.relays,
+        Event::RunningStateChange(old.relays, new.relays),
+    );
+    emit_if(
+        e5,
+        told.runningmode,
+        Event::RunningModeChange(old.runningmode, new.runningmode),
+    )
 }

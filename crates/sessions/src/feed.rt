@@ -3,10 +3,10 @@ ghost use Prim.Native.Nat.{_≤_};
 ghost use lib.ListN.{length};
 ghost use mathlib.Core.Path.{_≡_};
 ghost use Rattle.sessions.specs.Sessions.{Sound, Placed};
-use crate::serve;
-use crate::state;
 use crate::Held;
 use crate::Session;
+use crate::serve;
+use crate::state;
 use text::Page;
 
 fn lesser(a: usize, b: usize) -> usize
