@@ -1,88 +1,27 @@
-// model/specs/Records: single stores, each of which sets the dirty mark if it changes something.
+// model/specs/Records: a single store, which sets the dirty mark if it changes something.
 ghost use mathlib.Core.Path.{_≡_};
-ghost use Rattle.records.specs.Records.{withAttrs, setHeating, setCooling, setMinHeat, setMaxHeat, setMinCool, setMaxCool, setMode};
+ghost use Rattle.records.specs.Records.{withAttrs, sameSettings, updated};
 use records::Attrs;
 use records::Controller;
-use units::Hundredths;
+use records::Settings;
 
-pub fn set_heating(a: Attrs, v: Hundredths) -> Attrs
-    ensures { λ r. ⌜ r ≡ setHeating a v ⌝ }
+fn is_same_settings(s: Settings, t: Settings) -> bool
+    ensures { λ r. ⌜ r ≡ sameSettings s t ⌝ }
 {
-    let same = units::same(a.settings.heating, v);
-    let mut s = a.settings;
-    s.heating = v;
-    Attrs {
-        settings: s,
-        dirty: a.dirty | !same,
-    }
+    let heating = units::same(s.heating, t.heating);
+    let cooling = units::same(s.cooling, t.cooling);
+    let minheat = units::same(s.minheat, t.minheat);
+    let maxheat = units::same(s.maxheat, t.maxheat);
+    let mincool = units::same(s.mincool, t.mincool);
+    let maxcool = units::same(s.maxcool, t.maxcool);
+    let mode = s.mode == t.mode;
+    (heating & cooling) & (((minheat & maxheat) & (mincool & maxcool)) & mode)
 }
 
-pub fn set_cooling(a: Attrs, v: Hundredths) -> Attrs
-    ensures { λ r. ⌜ r ≡ setCooling a v ⌝ }
+pub fn update_attrs(a: Attrs, s: Settings) -> Attrs
+    ensures { λ r. ⌜ r ≡ updated a s ⌝ }
 {
-    let same = units::same(a.settings.cooling, v);
-    let mut s = a.settings;
-    s.cooling = v;
-    Attrs {
-        settings: s,
-        dirty: a.dirty | !same,
-    }
-}
-
-pub fn set_min_heat(a: Attrs, v: Hundredths) -> Attrs
-    ensures { λ r. ⌜ r ≡ setMinHeat a v ⌝ }
-{
-    let same = units::same(a.settings.minheat, v);
-    let mut s = a.settings;
-    s.minheat = v;
-    Attrs {
-        settings: s,
-        dirty: a.dirty | !same,
-    }
-}
-
-pub fn set_max_heat(a: Attrs, v: Hundredths) -> Attrs
-    ensures { λ r. ⌜ r ≡ setMaxHeat a v ⌝ }
-{
-    let same = units::same(a.settings.maxheat, v);
-    let mut s = a.settings;
-    s.maxheat = v;
-    Attrs {
-        settings: s,
-        dirty: a.dirty | !same,
-    }
-}
-
-pub fn set_min_cool(a: Attrs, v: Hundredths) -> Attrs
-    ensures { λ r. ⌜ r ≡ setMinCool a v ⌝ }
-{
-    let same = units::same(a.settings.mincool, v);
-    let mut s = a.settings;
-    s.mincool = v;
-    Attrs {
-        settings: s,
-        dirty: a.dirty | !same,
-    }
-}
-
-pub fn set_max_cool(a: Attrs, v: Hundredths) -> Attrs
-    ensures { λ r. ⌜ r ≡ setMaxCool a v ⌝ }
-{
-    let same = units::same(a.settings.maxcool, v);
-    let mut s = a.settings;
-    s.maxcool = v;
-    Attrs {
-        settings: s,
-        dirty: a.dirty | !same,
-    }
-}
-
-pub fn set_mode(a: Attrs, v: u8) -> Attrs
-    ensures { λ r. ⌜ r ≡ setMode a v ⌝ }
-{
-    let same = a.settings.mode == v;
-    let mut s = a.settings;
-    s.mode = v;
+    let same = is_same_settings(a.settings, s);
     Attrs {
         settings: s,
         dirty: a.dirty | !same,

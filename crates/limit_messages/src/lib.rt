@@ -1,6 +1,5 @@
 // model/specs/Messages: the message of the four limits.
 ghost use mathlib.Core.Path.{_≡_};
-ghost use Rattle.records.specs.Records.{setLimits};
 ghost use Rattle.model.specs.Answers.{answer};
 ghost use Rattle.model.specs.Messages as spec;
 ghost use Rattle.stages.specs.Stages.{withBits};
@@ -21,30 +20,6 @@ fn with_bits(o: Answer, bits: u16) -> Answer
 }
 
 // The four limits in one store.
-fn set_limits(
-    a: Attrs,
-    minh: Hundredths,
-    maxh: Hundredths,
-    minc: Hundredths,
-    maxc: Hundredths,
-) -> Attrs
-    ensures { λ r. ⌜ r ≡ setLimits a minh maxh minc maxc ⌝ }
-{
-    let s1 = units::same(a.settings.minheat, minh);
-    let s2 = units::same(a.settings.maxheat, maxh);
-    let s3 = units::same(a.settings.mincool, minc);
-    let s4 = units::same(a.settings.maxcool, maxc);
-    let mut s = a.settings;
-    s.minheat = minh;
-    s.maxheat = maxh;
-    s.mincool = minc;
-    s.maxcool = maxc;
-    Attrs {
-        settings: s,
-        dirty: a.dirty | ((!s1 | !s2) | (!s3 | !s4)),
-    }
-}
-
 fn take_limits(
     cfg: Config,
     a: Attrs,
@@ -55,11 +30,12 @@ fn take_limits(
 ) -> Attrs
     ensures { λ r. ⌜ r ≡ spec.limitsTaken cfg a minh maxh minc maxc ⌝ }
 {
-    let w = ranges::clamp(units::widen(minh), cfg.absminheat, cfg.absmaxheat);
-    let x = ranges::clamp(units::widen(maxh), cfg.absminheat, cfg.absmaxheat);
-    let y = ranges::clamp(units::widen(minc), cfg.absmincool, cfg.absmaxcool);
-    let z = ranges::clamp(units::widen(maxc), cfg.absmincool, cfg.absmaxcool);
-    set_limits(a, w, x, y, z)
+    let mut s = a.settings;
+    s.minheat = ranges::clamp(units::widen(minh), cfg.absminheat, cfg.absmaxheat);
+    s.maxheat = ranges::clamp(units::widen(maxh), cfg.absminheat, cfg.absmaxheat);
+    s.mincool = ranges::clamp(units::widen(minc), cfg.absmincool, cfg.absmaxcool);
+    s.maxcool = ranges::clamp(units::widen(maxc), cfg.absmincool, cfg.absmaxcool);
+    attrs::update_attrs(a, s)
 }
 
 // The new limits may cut across the setpoints, so the settings are repaired.

@@ -2,53 +2,35 @@
 ghost use mathlib.Core.Path.{_≡_};
 ghost use Rattle.model.specs.Writes as spec;
 use records::Config;
-use records::Settings;
 use units::Hundredths;
 
-pub fn bars_min_heat(cfg: Config, s: Settings, v: Hundredths) -> bool
-    ensures { λ r. ⌜ r ≡ spec.barsMinHeat cfg s v ⌝ }
+// Outside `lo`..`hi`, or with AUTO nearer than the dead band to the cooling limit beside it.
+pub fn bars_heat_limit(
+    cfg: Config,
+    v: Hundredths,
+    lo: Hundredths,
+    hi: Hundredths,
+    beside: Hundredths,
+) -> bool
+    ensures { λ r. ⌜ r ≡ spec.barsHeatLimit cfg v lo hi beside ⌝ }
 {
-    let inside = ranges::is_within(v, cfg.absminheat, s.maxheat);
+    let inside = ranges::is_within(v, lo, hi);
     let auto = served::auto(cfg);
-    let near = units::is_above(
-        v,
-        units::sub(limits::min_cool_setpoint(cfg, s), limits::dead_band(cfg)),
-    );
+    let near = units::is_above(v, units::sub(beside, limits::dead_band(cfg)));
     !inside | (auto & near)
 }
 
-pub fn bars_max_heat(cfg: Config, s: Settings, v: Hundredths) -> bool
-    ensures { λ r. ⌜ r ≡ spec.barsMaxHeat cfg s v ⌝ }
+pub fn bars_cool_limit(
+    cfg: Config,
+    v: Hundredths,
+    lo: Hundredths,
+    hi: Hundredths,
+    beside: Hundredths,
+) -> bool
+    ensures { λ r. ⌜ r ≡ spec.barsCoolLimit cfg v lo hi beside ⌝ }
 {
-    let inside = ranges::is_within(v, s.minheat, cfg.absmaxheat);
+    let inside = ranges::is_within(v, lo, hi);
     let auto = served::auto(cfg);
-    let near = units::is_above(
-        v,
-        units::sub(limits::max_cool_setpoint(cfg, s), limits::dead_band(cfg)),
-    );
-    !inside | (auto & near)
-}
-
-pub fn bars_min_cool(cfg: Config, s: Settings, v: Hundredths) -> bool
-    ensures { λ r. ⌜ r ≡ spec.barsMinCool cfg s v ⌝ }
-{
-    let inside = ranges::is_within(v, cfg.absmincool, s.maxcool);
-    let auto = served::auto(cfg);
-    let near = units::is_below(
-        v,
-        units::add(limits::min_heat_setpoint(cfg, s), limits::dead_band(cfg)),
-    );
-    !inside | (auto & near)
-}
-
-pub fn bars_max_cool(cfg: Config, s: Settings, v: Hundredths) -> bool
-    ensures { λ r. ⌜ r ≡ spec.barsMaxCool cfg s v ⌝ }
-{
-    let inside = ranges::is_within(v, s.mincool, cfg.absmaxcool);
-    let auto = served::auto(cfg);
-    let near = units::is_below(
-        v,
-        units::add(limits::max_heat_setpoint(cfg, s), limits::dead_band(cfg)),
-    );
+    let near = units::is_below(v, units::add(beside, limits::dead_band(cfg)));
     !inside | (auto & near)
 }

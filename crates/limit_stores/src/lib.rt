@@ -23,37 +23,6 @@ fn pull_heating(cfg: Config, r: Controller, n: Notices, d: Readings) -> Stage
     stores::store_heating_setpoint(cfg, r, n, d, attribution::EXTERNAL, v)
 }
 
-// A stored limit is noticed, then pulls its setpoint in.
-fn store_heat_limit(cfg: Config, r: Controller, d: Readings, a: Attrs, code: u16) -> Answer
-    ensures { λ q. ⌜ q ≡ answer (spec.applied cfg d (andThen (spec.limitStored cfg r a code) (spec.pullHeating cfg d))) ⌝ }
-{
-    let n = answers::notify(cfg, Notices::none(), code);
-    let s = pull_heating(cfg, attrs::with_attrs(r, a), n, d);
-    stages::apply(cfg, d, s)
-}
-
-pub fn write_heat_limit(
-    cfg: Config,
-    r: Controller,
-    d: Readings,
-    barred: bool,
-    a: Attrs,
-    code: u16,
-) -> Answer
-    ensures { λ q. ⌜ q ≡ answer (spec.limitWrite cfg r d (spec.limitWriteRows cfg r code barred) (spec.limitStored cfg r a code) (spec.pullHeating cfg d)) ⌝ }
-{
-    if !sound::is_sound(cfg, r) {
-        return orders::quiet_answer(28, r);
-    }
-    if !served::serves(cfg, code) {
-        return orders::quiet_answer(24, r);
-    }
-    if barred {
-        return orders::quiet_answer(22, r);
-    }
-    store_heat_limit(cfg, r, d, a, code)
-}
-
 fn pull_cooling(cfg: Config, r: Controller, n: Notices, d: Readings) -> Stage
     ensures { λ q. ⌜ q ≡ staged n (spec.pullCooling cfg d r) ⌝ }
 {
@@ -65,15 +34,34 @@ fn pull_cooling(cfg: Config, r: Controller, n: Notices, d: Readings) -> Stage
     stores::store_cooling_setpoint(cfg, r, n, d, attribution::EXTERNAL, v)
 }
 
-fn store_cool_limit(cfg: Config, r: Controller, d: Readings, a: Attrs, code: u16) -> Answer
-    ensures { λ q. ⌜ q ≡ answer (spec.applied cfg d (andThen (spec.limitStored cfg r a code) (spec.pullCooling cfg d))) ⌝ }
+fn pull(heat: bool, cfg: Config, r: Controller, n: Notices, d: Readings) -> Stage
+    ensures { λ q. ⌜ q ≡ staged n (spec.pullSide heat cfg d r) ⌝ }
+{
+    if heat {
+        return pull_heating(cfg, r, n, d);
+    }
+    pull_cooling(cfg, r, n, d)
+}
+
+// A stored limit is noticed, then pulls its setpoint in.
+fn store_limit(
+    heat: bool,
+    cfg: Config,
+    r: Controller,
+    d: Readings,
+    a: Attrs,
+    code: u16,
+) -> Answer
+    ensures { λ q. ⌜ q ≡ answer (spec.applied cfg d (andThen (spec.limitStored cfg r a code) (spec.pullSide heat cfg d))) ⌝ }
 {
     let n = answers::notify(cfg, Notices::none(), code);
-    let s = pull_cooling(cfg, attrs::with_attrs(r, a), n, d);
+    let s = pull(heat, cfg, attrs::with_attrs(r, a), n, d);
     stages::apply(cfg, d, s)
 }
 
-pub fn write_cool_limit(
+// `a` has the limit in it, and `heat` says whether it is heating's.
+pub fn write_limit(
+    heat: bool,
     cfg: Config,
     r: Controller,
     d: Readings,
@@ -81,7 +69,7 @@ pub fn write_cool_limit(
     a: Attrs,
     code: u16,
 ) -> Answer
-    ensures { λ q. ⌜ q ≡ answer (spec.limitWrite cfg r d (spec.limitWriteRows cfg r code barred) (spec.limitStored cfg r a code) (spec.pullCooling cfg d)) ⌝ }
+    ensures { λ q. ⌜ q ≡ answer (spec.limitWrite cfg r d (spec.limitWriteRows cfg r code barred) (spec.limitStored cfg r a code) (spec.pullSide heat cfg d)) ⌝ }
 {
     if !sound::is_sound(cfg, r) {
         return orders::quiet_answer(28, r);
@@ -92,5 +80,5 @@ pub fn write_cool_limit(
     if barred {
         return orders::quiet_answer(22, r);
     }
-    store_cool_limit(cfg, r, d, a, code)
+    store_limit(heat, cfg, r, d, a, code)
 }

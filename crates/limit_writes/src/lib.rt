@@ -16,9 +16,12 @@ pub fn write_min_heat_setpoint_limit(
 ) -> Answer
     ensures { λ q. ⌜ q ≡ answer (spec.writeMinHeatSetpointLimit cfg r d v) ⌝ }
 {
-    let barred = limit_rules::bars_min_heat(cfg, r.attrs.settings, v);
-    let a = attrs::set_min_heat(r.attrs, v);
-    limit_stores::write_heat_limit(cfg, r, d, barred, a, 0x15)
+    let mut s = r.attrs.settings;
+    let beside = limits::min_cool_setpoint(cfg, r.attrs.settings);
+    let barred = limit_rules::bars_heat_limit(cfg, v, cfg.absminheat, s.maxheat, beside);
+    s.minheat = v;
+    let a = attrs::update_attrs(r.attrs, s);
+    limit_stores::write_limit(true, cfg, r, d, barred, a, 0x15)
 }
 
 pub fn write_max_heat_setpoint_limit(
@@ -29,9 +32,12 @@ pub fn write_max_heat_setpoint_limit(
 ) -> Answer
     ensures { λ q. ⌜ q ≡ answer (spec.writeMaxHeatSetpointLimit cfg r d v) ⌝ }
 {
-    let barred = limit_rules::bars_max_heat(cfg, r.attrs.settings, v);
-    let a = attrs::set_max_heat(r.attrs, v);
-    limit_stores::write_heat_limit(cfg, r, d, barred, a, 0x16)
+    let mut s = r.attrs.settings;
+    let beside = limits::max_cool_setpoint(cfg, r.attrs.settings);
+    let barred = limit_rules::bars_heat_limit(cfg, v, s.minheat, cfg.absmaxheat, beside);
+    s.maxheat = v;
+    let a = attrs::update_attrs(r.attrs, s);
+    limit_stores::write_limit(true, cfg, r, d, barred, a, 0x16)
 }
 
 pub fn write_min_cool_setpoint_limit(
@@ -42,9 +48,12 @@ pub fn write_min_cool_setpoint_limit(
 ) -> Answer
     ensures { λ q. ⌜ q ≡ answer (spec.writeMinCoolSetpointLimit cfg r d v) ⌝ }
 {
-    let barred = limit_rules::bars_min_cool(cfg, r.attrs.settings, v);
-    let a = attrs::set_min_cool(r.attrs, v);
-    limit_stores::write_cool_limit(cfg, r, d, barred, a, 0x17)
+    let mut s = r.attrs.settings;
+    let beside = limits::min_heat_setpoint(cfg, r.attrs.settings);
+    let barred = limit_rules::bars_cool_limit(cfg, v, cfg.absmincool, s.maxcool, beside);
+    s.mincool = v;
+    let a = attrs::update_attrs(r.attrs, s);
+    limit_stores::write_limit(false, cfg, r, d, barred, a, 0x17)
 }
 
 pub fn write_max_cool_setpoint_limit(
@@ -55,7 +64,10 @@ pub fn write_max_cool_setpoint_limit(
 ) -> Answer
     ensures { λ q. ⌜ q ≡ answer (spec.writeMaxCoolSetpointLimit cfg r d v) ⌝ }
 {
-    let barred = limit_rules::bars_max_cool(cfg, r.attrs.settings, v);
-    let a = attrs::set_max_cool(r.attrs, v);
-    limit_stores::write_cool_limit(cfg, r, d, barred, a, 0x18)
+    let mut s = r.attrs.settings;
+    let beside = limits::max_heat_setpoint(cfg, r.attrs.settings);
+    let barred = limit_rules::bars_cool_limit(cfg, v, s.mincool, cfg.absmaxcool, beside);
+    s.maxcool = v;
+    let a = attrs::update_attrs(r.attrs, s);
+    limit_stores::write_limit(false, cfg, r, d, barred, a, 0x18)
 }

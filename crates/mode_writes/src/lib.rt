@@ -20,9 +20,10 @@ pub fn write_system_mode(cfg: Config, r: Controller, d: Readings, v: u8) -> Answ
         return orders::quiet_answer(22, r);
     }
     let n = Notices::none();
-    let q = attrs::with_attrs(r, attrs::set_mode(r.attrs, v));
-    let s = Stage { rec: q, notices: n };
-    let mut o = stages::apply(cfg, d, s);
+    let mut s = r.attrs.settings;
+    s.mode = v;
+    let q = attrs::with_attrs(r, attrs::update_attrs(r.attrs, s));
+    let mut o = stages::apply(cfg, d, Stage { rec: q, notices: n });
     let m = answers::notify(cfg, o.notices, 0x1C);
     o.notices = m;
     o

@@ -5,8 +5,8 @@ use mathlib.Core.List.{_++_}
 use lib.IntN.{ℤ, pos, _+ℤ_}
 use lib.Signed.{_≤ℤ_}
 use borrow.Author.Tests.{eqb-true, not-false}
-use Rattle.integers.specs.Linear.{linear, sum-parts, diff-parts, scale-parts}
-use Rattle.units.specs.Units.{inHundredths, less, minus, above, negative}
+use Rattle.integers.specs.Linear.{linear, sum-parts, diff-parts}
+use Rattle.units.specs.Units.{inHundredths, less, minus, above}
 use Rattle.units.specs.declared.Hundredths.{Hundredths}
 use Rattle.model.specs.Refusals.{Clear, thenRows}
 use Rattle.records.specs.Records.{zeroHundredths}
@@ -62,9 +62,9 @@ module _ (cfg : Config) (ok : accepted cfg ≡ true) where
   after-events : Clear (eventRows cfg) × Clear (numberRows cfg)
   after-events = clear-append (eventRows cfg) _ (after-limits .1)
 
-  band-kept : negative (cfg .deadband) ≡ false → pos 0 ≤ℤ inHundredths (cfg .deadband) .0
-  unfolding negative inHundredths
-  band-kept e = omega (linear, scale-parts (cfg .deadband .0) 10)
+  band-kept : less (inHundredths (cfg .deadband)) zeroHundredths ≡ false → pos 0 ≤ℤ inHundredths (cfg .deadband) .0
+  unfolding less
+  band-kept e = omega linear
 
   -- what one row of a pair of limits says
   gap : (h c : Hundredths) → above h (minus c (deadBand cfg)) ≡ false → (h .0 +ℤ deadBand cfg .0) ≤ℤ c .0

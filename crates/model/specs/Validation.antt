@@ -4,7 +4,7 @@ use mathlib.Core.List.{List, [], _∷_, _++_}
 use Prim.Native.Nat.{ℕ}
 use lib.Bits.{bitOr}
 use lib.Dec.{eqb}
-use Rattle.units.specs.Units.{less, minus, above, negative}
+use Rattle.units.specs.Units.{inHundredths, less, minus, above}
 use Rattle.records.specs.Records.{zeroHundredths}
 use Rattle.model.specs.Refusals.{Row, row, firstFailing}
 use Rattle.model.specs.Served.{heats, cools, auto, hidesTemperature, tellsEvents, listed, serves, emits, hasHeatLimits, hasCoolLimits, someHeatLimit, someCoolLimit}
@@ -71,7 +71,7 @@ numberRows cfg =
     row 16 (not (listed (cfg .commands) 0)) ∷
     row 17 (less (cfg .absmaxheat) (cfg .absminheat)) ∷
     row 18 (less (cfg .absmaxcool) (cfg .absmincool)) ∷
-    row 19 (auto cfg && negative (cfg .deadband)) ∷
+    row 19 (auto cfg && less (inHundredths (cfg .deadband)) zeroHundredths) ∷
     row 20 (auto cfg && (above (cfg .absminheat) (minus (cfg .absmincool) (deadBand cfg)) || above (cfg .absmaxheat) (minus (cfg .absmaxcool) (deadBand cfg)))) ∷
     row 21 (differ (heats cfg) (sequenceHeats cfg) || differ (cools cfg) (sequenceCools cfg)) ∷ []
 

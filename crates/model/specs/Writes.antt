@@ -1,5 +1,5 @@
 -- Document 01, Writes: setpoints, limits, mode, raise/lower; and the plant order in which each ends.
-use mathlib.Core.Bool.{Bool, not, _&&_, _||_, cond}
+use mathlib.Core.Bool.{Bool, true, false, not, _&&_, _||_, cond}
 use mathlib.Core.List.{List, [], _∷_, _++_}
 use Prim.Native.Nat.{ℕ}
 use lib.Dec.{eqb, ltb}
@@ -113,6 +113,11 @@ pullCooling cfg d r =
     cond (inCoolLimits cfg s (s .cooling)) (unchanged r)
     (storeCoolingSetpoint cfg d external (clampCoolSetpoint cfg s (widened (s .cooling))) r)
 
+-- the side that a limit pulls: heating, else cooling
+unfoldable pub pullSide : Bool → Config → Readings → Controller → Stage
+pullSide true = pullHeating
+pullSide false = pullCooling
+
 -- a limit write: refused where its attribute is unserved or its value is barred; else the limit is stored and noticed, then pulls
 abbrev pub limitWriteRows : Config → Controller → ℕ → Bool → List Row
 limitWriteRows cfg r code barred = unsound cfg r ∷ unserved cfg code ∷ row 22 barred ∷ []
@@ -123,9 +128,16 @@ limitStored cfg r a code = record { rec = withAttrs r a; notices = noticed cfg c
 abbrev pub limitWrite : Config → Controller → Readings → List Row → Stage → (Controller → Stage) → Outcome
 limitWrite cfg r d rows stored pull = unless rows r (applied cfg d (andThen stored pull))
 
--- a minimum may not exceed its maximum or leave ABS; AUTO keeps it at most cooling minimum − dead band
+-- AUTO keeps heating limits at most the cooling limit beside them − dead band
+abbrev pub barsHeatLimit : Config → Hundredths → Hundredths → Hundredths → Hundredths → Bool
+barsHeatLimit cfg v lo hi beside = not (within v lo hi) || (auto cfg && above v (minus beside (deadBand cfg)))
+
+abbrev pub barsCoolLimit : Config → Hundredths → Hundredths → Hundredths → Hundredths → Bool
+barsCoolLimit cfg v lo hi beside = not (within v lo hi) || (auto cfg && below v (plus beside (deadBand cfg)))
+
+-- a minimum may not exceed its maximum or leave ABS
 abbrev pub barsMinHeat : Config → Settings → Hundredths → Bool
-barsMinHeat cfg s v = not (within v (cfg .absminheat) (s .maxheat)) || (auto cfg && above v (minus (minCoolSetpoint cfg s) (deadBand cfg)))
+barsMinHeat cfg s v = barsHeatLimit cfg v (cfg .absminheat) (s .maxheat) (minCoolSetpoint cfg s)
 
 abbrev pub minHeatRows : Config → Controller → Hundredths → List Row
 minHeatRows cfg r v = limitWriteRows cfg r 0x15 (barsMinHeat cfg (r .attrs .settings) v)
@@ -135,7 +147,7 @@ writeMinHeatSetpointLimit cfg r d v = limitWrite cfg r d (minHeatRows cfg r v) (
 
 -- nor a maximum the reverse
 abbrev pub barsMaxHeat : Config → Settings → Hundredths → Bool
-barsMaxHeat cfg s v = not (within v (s .minheat) (cfg .absmaxheat)) || (auto cfg && above v (minus (maxCoolSetpoint cfg s) (deadBand cfg)))
+barsMaxHeat cfg s v = barsHeatLimit cfg v (s .minheat) (cfg .absmaxheat) (maxCoolSetpoint cfg s)
 
 abbrev pub maxHeatRows : Config → Controller → Hundredths → List Row
 maxHeatRows cfg r v = limitWriteRows cfg r 0x16 (barsMaxHeat cfg (r .attrs .settings) v)
@@ -144,7 +156,7 @@ unfoldable pub writeMaxHeatSetpointLimit : Config → Controller → Readings �
 writeMaxHeatSetpointLimit cfg r d v = limitWrite cfg r d (maxHeatRows cfg r v) (limitStored cfg r (setMaxHeat (r .attrs) v) 0x16) (pullHeating cfg d)
 
 abbrev pub barsMinCool : Config → Settings → Hundredths → Bool
-barsMinCool cfg s v = not (within v (cfg .absmincool) (s .maxcool)) || (auto cfg && below v (plus (minHeatSetpoint cfg s) (deadBand cfg)))
+barsMinCool cfg s v = barsCoolLimit cfg v (cfg .absmincool) (s .maxcool) (minHeatSetpoint cfg s)
 
 abbrev pub minCoolRows : Config → Controller → Hundredths → List Row
 minCoolRows cfg r v = limitWriteRows cfg r 0x17 (barsMinCool cfg (r .attrs .settings) v)
@@ -153,7 +165,7 @@ unfoldable pub writeMinCoolSetpointLimit : Config → Controller → Readings �
 writeMinCoolSetpointLimit cfg r d v = limitWrite cfg r d (minCoolRows cfg r v) (limitStored cfg r (setMinCool (r .attrs) v) 0x17) (pullCooling cfg d)
 
 abbrev pub barsMaxCool : Config → Settings → Hundredths → Bool
-barsMaxCool cfg s v = not (within v (s .mincool) (cfg .absmaxcool)) || (auto cfg && below v (plus (maxHeatSetpoint cfg s) (deadBand cfg)))
+barsMaxCool cfg s v = barsCoolLimit cfg v (s .mincool) (cfg .absmaxcool) (maxHeatSetpoint cfg s)
 
 abbrev pub maxCoolRows : Config → Controller → Hundredths → List Row
 maxCoolRows cfg r v = limitWriteRows cfg r 0x18 (barsMaxCool cfg (r .attrs .settings) v)

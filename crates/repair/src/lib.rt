@@ -16,12 +16,9 @@ fn clamp_min_heat(cfg: Config, a: Attrs) -> Attrs
     ensures { λ r. ⌜ r ≡ spec.clampMinHeat cfg a ⌝ }
 {
     if served::has_heat_limits(cfg) {
-        let v = ranges::clamp(
-            units::widen(a.settings.minheat),
-            cfg.absminheat,
-            cfg.absmaxheat,
-        );
-        return attrs::set_min_heat(a, v);
+        let mut s = a.settings;
+        s.minheat = ranges::clamp(units::widen(s.minheat), cfg.absminheat, cfg.absmaxheat);
+        return attrs::update_attrs(a, s);
     }
     a
 }
@@ -30,12 +27,9 @@ fn clamp_max_heat(cfg: Config, a: Attrs) -> Attrs
     ensures { λ r. ⌜ r ≡ spec.clampMaxHeat cfg a ⌝ }
 {
     if served::has_heat_limits(cfg) {
-        let v = ranges::clamp(
-            units::widen(a.settings.maxheat),
-            a.settings.minheat,
-            cfg.absmaxheat,
-        );
-        return attrs::set_max_heat(a, v);
+        let mut s = a.settings;
+        s.maxheat = ranges::clamp(units::widen(s.maxheat), s.minheat, cfg.absmaxheat);
+        return attrs::update_attrs(a, s);
     }
     a
 }
@@ -44,12 +38,9 @@ fn clamp_min_cool(cfg: Config, a: Attrs) -> Attrs
     ensures { λ r. ⌜ r ≡ spec.clampMinCool cfg a ⌝ }
 {
     if served::has_cool_limits(cfg) {
-        let v = ranges::clamp(
-            units::widen(a.settings.mincool),
-            cfg.absmincool,
-            cfg.absmaxcool,
-        );
-        return attrs::set_min_cool(a, v);
+        let mut s = a.settings;
+        s.mincool = ranges::clamp(units::widen(s.mincool), cfg.absmincool, cfg.absmaxcool);
+        return attrs::update_attrs(a, s);
     }
     a
 }
@@ -58,12 +49,9 @@ fn clamp_max_cool(cfg: Config, a: Attrs) -> Attrs
     ensures { λ r. ⌜ r ≡ spec.clampMaxCool cfg a ⌝ }
 {
     if served::has_cool_limits(cfg) {
-        let v = ranges::clamp(
-            units::widen(a.settings.maxcool),
-            a.settings.mincool,
-            cfg.absmaxcool,
-        );
-        return attrs::set_max_cool(a, v);
+        let mut s = a.settings;
+        s.maxcool = ranges::clamp(units::widen(s.maxcool), s.mincool, cfg.absmaxcool);
+        return attrs::update_attrs(a, s);
     }
     a
 }
@@ -80,9 +68,10 @@ fn pull_min_heat(cfg: Config, a: Attrs) -> Attrs
     ensures { λ r. ⌜ r ≡ spec.pullMinHeat cfg a ⌝ }
 {
     if pulls_heat_limits(cfg) {
-        let w = units::sub(a.settings.mincool, limits::dead_band(cfg));
-        let v = ranges::clamp(w, cfg.absminheat, a.settings.minheat);
-        return attrs::set_min_heat(a, v);
+        let mut s = a.settings;
+        let w = units::sub(s.mincool, limits::dead_band(cfg));
+        s.minheat = ranges::clamp(w, cfg.absminheat, s.minheat);
+        return attrs::update_attrs(a, s);
     }
     a
 }
@@ -91,9 +80,10 @@ fn pull_max_heat(cfg: Config, a: Attrs) -> Attrs
     ensures { λ r. ⌜ r ≡ spec.pullMaxHeat cfg a ⌝ }
 {
     if pulls_heat_limits(cfg) {
-        let w = units::sub(a.settings.maxcool, limits::dead_band(cfg));
-        let v = ranges::clamp(w, a.settings.minheat, a.settings.maxheat);
-        return attrs::set_max_heat(a, v);
+        let mut s = a.settings;
+        let w = units::sub(s.maxcool, limits::dead_band(cfg));
+        s.maxheat = ranges::clamp(w, s.minheat, s.maxheat);
+        return attrs::update_attrs(a, s);
     }
     a
 }
@@ -102,8 +92,9 @@ fn clamp_heating(cfg: Config, a: Attrs) -> Attrs
     ensures { λ r. ⌜ r ≡ spec.clampHeating cfg a ⌝ }
 {
     if served::heats(cfg) {
-        let v = limits::clamp_heat_setpoint(cfg, a.settings, units::widen(a.settings.heating));
-        return attrs::set_heating(a, v);
+        let mut s = a.settings;
+        s.heating = limits::clamp_heat_setpoint(cfg, a.settings, units::widen(s.heating));
+        return attrs::update_attrs(a, s);
     }
     a
 }
@@ -112,8 +103,9 @@ fn clamp_cooling(cfg: Config, a: Attrs) -> Attrs
     ensures { λ r. ⌜ r ≡ spec.clampCooling cfg a ⌝ }
 {
     if served::cools(cfg) {
-        let v = limits::clamp_cool_setpoint(cfg, a.settings, units::widen(a.settings.cooling));
-        return attrs::set_cooling(a, v);
+        let mut s = a.settings;
+        s.cooling = limits::clamp_cool_setpoint(cfg, a.settings, units::widen(s.cooling));
+        return attrs::update_attrs(a, s);
     }
     a
 }
@@ -122,10 +114,11 @@ fn push_cooling(cfg: Config, a: Attrs) -> Attrs
     ensures { λ r. ⌜ r ≡ spec.pushCooling cfg a ⌝ }
 {
     if served::auto(cfg) {
-        let w = units::add(a.settings.heating, limits::dead_band(cfg));
-        let g = ranges::max(units::widen(a.settings.cooling), w);
-        let v = limits::clamp_cool_setpoint(cfg, a.settings, g);
-        return attrs::set_cooling(a, v);
+        let mut s = a.settings;
+        let w = units::add(s.heating, limits::dead_band(cfg));
+        let g = ranges::max(units::widen(s.cooling), w);
+        s.cooling = limits::clamp_cool_setpoint(cfg, a.settings, g);
+        return attrs::update_attrs(a, s);
     }
     a
 }
@@ -134,10 +127,11 @@ fn push_heating(cfg: Config, a: Attrs) -> Attrs
     ensures { λ r. ⌜ r ≡ spec.pushHeating cfg a ⌝ }
 {
     if served::auto(cfg) {
-        let w = units::sub(a.settings.cooling, limits::dead_band(cfg));
-        let l = ranges::min(units::widen(a.settings.heating), w);
-        let v = limits::clamp_heat_setpoint(cfg, a.settings, l);
-        return attrs::set_heating(a, v);
+        let mut s = a.settings;
+        let w = units::sub(s.cooling, limits::dead_band(cfg));
+        let l = ranges::min(units::widen(s.heating), w);
+        s.heating = limits::clamp_heat_setpoint(cfg, a.settings, l);
+        return attrs::update_attrs(a, s);
     }
     a
 }
@@ -148,7 +142,9 @@ fn repair_mode(cfg: Config, a: Attrs) -> Attrs
     if modes::is_supported_system_mode(cfg, a.settings.mode) {
         return a;
     }
-    attrs::set_mode(a, 0)
+    let mut s = a.settings;
+    s.mode = 0;
+    attrs::update_attrs(a, s)
 }
 
 fn repair_limits(cfg: Config, a: Attrs) -> Attrs

@@ -35,7 +35,9 @@ pub fn heating_message(cfg: Config, r: Controller, v: Hundredths) -> Answer
     ensures { λ q. ⌜ q ≡ answer (spec.heatingMessage cfg r v) ⌝ }
 {
     let w = limits::clamp_heat_setpoint(cfg, r.attrs.settings, units::widen(v));
-    let q = attrs::with_attrs(r, attrs::set_heating(r.attrs, w));
+    let mut s = r.attrs.settings;
+    s.heating = w;
+    let q = attrs::with_attrs(r, attrs::update_attrs(r.attrs, s));
     plain_message(q, PENDING_OCCUPIED_HEATING_SETPOINT)
 }
 
@@ -43,7 +45,9 @@ pub fn cooling_message(cfg: Config, r: Controller, v: Hundredths) -> Answer
     ensures { λ q. ⌜ q ≡ answer (spec.coolingMessage cfg r v) ⌝ }
 {
     let w = limits::clamp_cool_setpoint(cfg, r.attrs.settings, units::widen(v));
-    let q = attrs::with_attrs(r, attrs::set_cooling(r.attrs, w));
+    let mut s = r.attrs.settings;
+    s.cooling = w;
+    let q = attrs::with_attrs(r, attrs::update_attrs(r.attrs, s));
     plain_message(q, PENDING_OCCUPIED_COOLING_SETPOINT)
 }
 
@@ -53,6 +57,8 @@ pub fn mode_message(cfg: Config, r: Controller, v: u8) -> Answer
     if !modes::is_supported_system_mode(cfg, v) {
         return orders::quiet_answer(26, r);
     }
-    let q = attrs::with_attrs(r, attrs::set_mode(r.attrs, v));
+    let mut s = r.attrs.settings;
+    s.mode = v;
+    let q = attrs::with_attrs(r, attrs::update_attrs(r.attrs, s));
     plain_message(q, PENDING_SYSTEM_MODE)
 }

@@ -45,8 +45,12 @@ pub fn store_heating_setpoint(
     let beside = gaps::cooling_beside(cfg, s, v);
     let pushed = !units::same(s.cooling, beside);
     let c = r.change;
+    let mut t = s;
+    t.heating = v;
+    let a = attrs::update_attrs(r.attrs, t);
+    t.cooling = beside;
     let mut q = r;
-    q.attrs = attrs::set_cooling(attrs::set_heating(r.attrs, v), beside);
+    q.attrs = attrs::update_attrs(a, t);
     q.change = record_if(moved, d, source, old, v, c);
     let k = attribution::claim_setpoints(cfg, q);
     let m = stages::notify_change(cfg, n, moved, 0x12);
@@ -70,8 +74,12 @@ pub fn store_cooling_setpoint(
     let beside = gaps::heating_beside(cfg, s, v);
     let pushed = !units::same(s.heating, beside);
     let c = r.change;
+    let mut t = s;
+    t.cooling = v;
+    let a = attrs::update_attrs(r.attrs, t);
+    t.heating = beside;
     let mut q = r;
-    q.attrs = attrs::set_heating(attrs::set_cooling(r.attrs, v), beside);
+    q.attrs = attrs::update_attrs(a, t);
     q.change = record_if(moved, d, source, old, v, c);
     let k = attribution::claim_setpoints(cfg, q);
     let m = stages::notify_change(cfg, n, moved, 0x11);

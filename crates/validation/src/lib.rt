@@ -162,7 +162,7 @@ fn validate_numbers(cfg: Config, rest: u8) -> u8
     let d = limits::dead_band(cfg);
     let low = units::is_above(cfg.absminheat, units::sub(cfg.absmincool, d));
     let high = units::is_above(cfg.absmaxheat, units::sub(cfg.absmaxcool, d));
-    let negative = units::is_negative(cfg.deadband);
+    let negative = units::is_less(units::in_hundredths(cfg.deadband), Hundredths::ZERO);
     let heat = units::is_less(cfg.absmaxheat, cfg.absminheat);
     let cool = units::is_less(cfg.absmaxcool, cfg.absmincool);
     let raise = served::listed(cfg.commands, 0);

@@ -12,5 +12,5 @@ clamp-cooling-spec =
     (λ c κs. tt)
     (λ c κs. tt)
     (λ c κs. tt)
-    (λ c. simp (c .set-cooling .ensures, c .before .clamp-cool-setpoint .ensures, c .before .before .widen .ensures, sym (c .before .before .before .before .cools .ensures) ∙ c .before .before .before .if1 .taken))
+    (λ c. simp (c .update-attrs .ensures, c .before .clamp-cool-setpoint .ensures, c .before .before .widen .ensures, sym (c .before .before .before .before .before .cools .ensures) ∙ c .before .before .before .before .if1 .taken))
     (λ c. simp (sym (c .before .cools .ensures) ∙ c .if1 .left)))

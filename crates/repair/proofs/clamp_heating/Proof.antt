@@ -12,5 +12,5 @@ clamp-heating-spec =
     (λ c κs. tt)
     (λ c κs. tt)
     (λ c κs. tt)
-    (λ c. simp (c .set-heating .ensures, c .before .clamp-heat-setpoint .ensures, c .before .before .widen .ensures, sym (c .before .before .before .before .heats .ensures) ∙ c .before .before .before .if1 .taken))
+    (λ c. simp (c .update-attrs .ensures, c .before .clamp-heat-setpoint .ensures, c .before .before .widen .ensures, sym (c .before .before .before .before .before .heats .ensures) ∙ c .before .before .before .before .if1 .taken))
     (λ c. simp (sym (c .before .heats .ensures) ∙ c .if1 .left)))

@@ -12,5 +12,5 @@ clamp-max-heat-spec =
     (λ c κs. tt)
     (λ c κs. tt)
     (λ c κs. tt)
-    (λ c. simp (c .set-max-heat .ensures, c .before .clamp .ensures, c .before .before .widen .ensures, sym (c .before .before .before .before .has-heat-limits .ensures) ∙ c .before .before .before .if1 .taken))
+    (λ c. simp (c .update-attrs .ensures, c .before .clamp .ensures, c .before .before .widen .ensures, sym (c .before .before .before .before .before .has-heat-limits .ensures) ∙ c .before .before .before .before .if1 .taken))
     (λ c. simp (sym (c .before .has-heat-limits .ensures) ∙ c .if1 .left)))

@@ -13,5 +13,5 @@ pull-min-heat-spec =
     (λ c κs. tt)
     (λ c κs. tt)
     (λ c κs. tt)
-    (λ c. simp (c .set-min-heat .ensures, c .before .clamp .ensures, c .before .before .sub .ensures, c .before .before .before .dead-band .ensures, sym (c .before .before .before .before .before .pulls-heat-limits .ensures) ∙ c .before .before .before .before .if1 .taken))
+    (λ c. simp (c .update-attrs .ensures, c .before .clamp .ensures, c .before .before .sub .ensures, c .before .before .before .dead-band .ensures, sym (c .before .before .before .before .before .before .pulls-heat-limits .ensures) ∙ c .before .before .before .before .before .if1 .taken))
     (λ c. simp (sym (c .before .pulls-heat-limits .ensures) ∙ c .if1 .left)))

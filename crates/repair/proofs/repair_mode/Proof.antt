@@ -11,4 +11,4 @@ repair-mode-spec =
     (λ c κs. tt)
     (λ c. simp (sym (c .before .is-supported-system-mode .ensures) ∙ c .if1 .taken))
     (λ c κs. tt)
-    (λ c. simp (c .set-mode .ensures, sym (c .before .before .is-supported-system-mode .ensures) ∙ c .before .if1 .left)))
+    (λ c. simp (c .update-attrs .ensures, sym (c .before .before .before .is-supported-system-mode .ensures) ∙ c .before .before .if1 .left)))
