@@ -1,9 +1,7 @@
-// model/specs/Attribution: recording, arming, the claimed pair.
+// model/specs/Attribution: recording and arming.
 ghost use mathlib.Core.Path.{_≡_};
-ghost use mathlib.Core.Bool.{cond};
-ghost use Rattle.records.specs.Records.{zeroHundredths};
 ghost use Rattle.records.specs.declared.Second.the-variants.{NoSecond};
-ghost use Rattle.model.specs.Attribution.{stamp as stampOf, recorded, withAttributed, withArmed, armedClock, servedSetpoints, claimSetpoints};
+ghost use Rattle.model.specs.Attribution.{stamp as stampOf, recorded, withAttributed, withArmed, armedClock};
 use records::Amount;
 use records::Attributed;
 use records::Config;
@@ -11,7 +9,6 @@ use records::Controller;
 use records::Readings;
 use records::Second;
 use records::SetpointChangeState;
-use records::Settings;
 use units::Hundredths;
 
 pub const MANUAL: u8 = 0;
@@ -99,33 +96,4 @@ pub fn arm_clock(cfg: Config, d: Readings, r: Controller) -> Controller
         return q;
     }
     r
-}
-
-fn side_or_zero(t: bool, v: Hundredths) -> Hundredths
-    ensures { λ r. ⌜ r ≡ cond t v zeroHundredths ⌝ }
-{
-    if t {
-        return v;
-    }
-    Hundredths::ZERO
-}
-
-// An unserved side counts 0.
-pub fn served_setpoints(cfg: Config, s: Settings) -> Attributed
-    ensures { λ r. ⌜ r ≡ servedSetpoints cfg s ⌝ }
-{
-    let h = side_or_zero(served::heats(cfg), s.heating);
-    let c = side_or_zero(served::cools(cfg), s.cooling);
-    Attributed::Claimed(h, c)
-}
-
-pub fn claim_setpoints(cfg: Config, r: Controller) -> Controller
-    ensures { λ q. ⌜ q ≡ claimSetpoints cfg r ⌝ }
-{
-    let pair = served_setpoints(cfg, r.attrs.settings);
-    let c = r.change;
-    let a = attribute(c, pair);
-    let mut q = r;
-    q.change = a;
-    q
 }

@@ -1,8 +1,7 @@
 // model/specs/Records: a single store, which sets the dirty mark if it changes something.
 ghost use mathlib.Core.Path.{_≡_};
-ghost use Rattle.records.specs.Records.{withAttrs, sameSettings, updated};
+ghost use Rattle.records.specs.Records.{sameSettings, updated};
 use records::Attrs;
-use records::Controller;
 use records::Settings;
 
 fn is_same_settings(s: Settings, t: Settings) -> bool
@@ -26,12 +25,4 @@ pub fn update_attrs(a: Attrs, s: Settings) -> Attrs
         settings: s,
         dirty: a.dirty | !same,
     }
-}
-
-pub fn with_attrs(r: Controller, a: Attrs) -> Controller
-    ensures { λ q. ⌜ q ≡ withAttrs r a ⌝ }
-{
-    let mut q = r;
-    q.attrs = a;
-    q
 }

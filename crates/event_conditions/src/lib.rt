@@ -37,7 +37,7 @@ fn tells_cooling(cfg: Config, old: Snapshot, new: Snapshot) -> bool
     ensures { λ r. ⌜ r ≡ spec.tellsCooling cfg old new ⌝ }
 {
     let emits = served::emits(cfg, 3);
-    let cools = served::cools(cfg);
+    let cools = features::cools(cfg);
     let same = units::same(old.cooling, new.cooling);
     emits & (cools & !same)
 }
@@ -46,7 +46,7 @@ fn tells_heating(cfg: Config, old: Snapshot, new: Snapshot) -> bool
     ensures { λ r. ⌜ r ≡ spec.tellsHeating cfg old new ⌝ }
 {
     let emits = served::emits(cfg, 3);
-    let heats = served::heats(cfg);
+    let heats = features::heats(cfg);
     let same = units::same(old.heating, new.heating);
     emits & (heats & !same)
 }

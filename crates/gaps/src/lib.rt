@@ -8,7 +8,7 @@ use units::Hundredths;
 fn is_too_near_cooling(cfg: Config, s: Settings, v: Hundredths) -> bool
     ensures { λ r. ⌜ r ≡ spec.tooNearCooling cfg s v ⌝ }
 {
-    let auto = served::auto(cfg);
+    let auto = features::auto(cfg);
     let near = units::is_above(v, units::sub(s.cooling, limits::dead_band(cfg)));
     auto & near
 }
@@ -16,7 +16,7 @@ fn is_too_near_cooling(cfg: Config, s: Settings, v: Hundredths) -> bool
 fn is_too_near_heating(cfg: Config, s: Settings, v: Hundredths) -> bool
     ensures { λ r. ⌜ r ≡ spec.tooNearHeating cfg s v ⌝ }
 {
-    let auto = served::auto(cfg);
+    let auto = features::auto(cfg);
     let near = units::is_below(v, units::add(s.heating, limits::dead_band(cfg)));
     auto & near
 }
@@ -26,7 +26,7 @@ pub fn cooling_beside(cfg: Config, s: Settings, v: Hundredths) -> Hundredths
     ensures { λ r. ⌜ r ≡ spec.coolingBeside cfg s v ⌝ }
 {
     if is_too_near_cooling(cfg, s, v) {
-        return limits::clamp_cool_setpoint(cfg, s, units::add(v, limits::dead_band(cfg)));
+        return clamps::clamp_cool_setpoint(cfg, s, units::add(v, limits::dead_band(cfg)));
     }
     s.cooling
 }
@@ -36,7 +36,7 @@ pub fn heating_beside(cfg: Config, s: Settings, v: Hundredths) -> Hundredths
     ensures { λ r. ⌜ r ≡ spec.heatingBeside cfg s v ⌝ }
 {
     if is_too_near_heating(cfg, s, v) {
-        return limits::clamp_heat_setpoint(cfg, s, units::sub(v, limits::dead_band(cfg)));
+        return clamps::clamp_heat_setpoint(cfg, s, units::sub(v, limits::dead_band(cfg)));
     }
     s.heating
 }

@@ -15,7 +15,7 @@ pub fn bars_heat_limit(
     ensures { λ r. ⌜ r ≡ spec.barsHeatLimit cfg v lo hi beside ⌝ }
 {
     let inside = ranges::is_within(v, lo, hi);
-    let auto = served::auto(cfg);
+    let auto = features::auto(cfg);
     let near = units::is_above(v, units::sub(beside, limits::dead_band(cfg)));
     !inside | (auto & near)
 }
@@ -30,7 +30,7 @@ pub fn bars_cool_limit(
     ensures { λ r. ⌜ r ≡ spec.barsCoolLimit cfg v lo hi beside ⌝ }
 {
     let inside = ranges::is_within(v, lo, hi);
-    let auto = served::auto(cfg);
+    let auto = features::auto(cfg);
     let near = units::is_below(v, units::add(beside, limits::dead_band(cfg)));
     !inside | (auto & near)
 }

@@ -11,51 +11,23 @@ use records::Notices;
 use records::Readings;
 use stages::Stage;
 
-// A setpoint outside the limits in force is stored at the nearest one.
-fn pull_heating(cfg: Config, r: Controller, n: Notices, d: Readings) -> Stage
-    ensures { λ q. ⌜ q ≡ staged n (spec.pullHeating cfg d r) ⌝ }
-{
-    let s = r.attrs.settings;
-    if limits::in_heat_limits(cfg, s, s.heating) {
-        return Stage { rec: r, notices: n };
-    }
-    let v = limits::clamp_heat_setpoint(cfg, s, units::widen(s.heating));
-    stores::store_heating_setpoint(cfg, r, n, d, attribution::EXTERNAL, v)
-}
-
-fn pull_cooling(cfg: Config, r: Controller, n: Notices, d: Readings) -> Stage
-    ensures { λ q. ⌜ q ≡ staged n (spec.pullCooling cfg d r) ⌝ }
-{
-    let s = r.attrs.settings;
-    if limits::in_cool_limits(cfg, s, s.cooling) {
-        return Stage { rec: r, notices: n };
-    }
-    let v = limits::clamp_cool_setpoint(cfg, s, units::widen(s.cooling));
-    stores::store_cooling_setpoint(cfg, r, n, d, attribution::EXTERNAL, v)
-}
-
 fn pull(heat: bool, cfg: Config, r: Controller, n: Notices, d: Readings) -> Stage
     ensures { λ q. ⌜ q ≡ staged n (spec.pullSide heat cfg d r) ⌝ }
 {
     if heat {
-        return pull_heating(cfg, r, n, d);
+        return pulls::pull_heating(cfg, r, n, d);
     }
-    pull_cooling(cfg, r, n, d)
+    pulls::pull_cooling(cfg, r, n, d)
 }
 
 // A stored limit is noticed, then pulls its setpoint in.
-fn store_limit(
-    heat: bool,
-    cfg: Config,
-    r: Controller,
-    d: Readings,
-    a: Attrs,
-    code: u16,
-) -> Answer
+fn store_limit(heat: bool, cfg: Config, r: Controller, d: Readings, a: Attrs, code: u16) -> Answer
     ensures { λ q. ⌜ q ≡ answer (spec.applied cfg d (andThen (spec.limitStored cfg r a code) (spec.pullSide heat cfg d))) ⌝ }
 {
     let n = answers::notify(cfg, Notices::none(), code);
-    let s = pull(heat, cfg, attrs::with_attrs(r, a), n, d);
+    let mut q = r;
+    q.attrs = a;
+    let s = pull(heat, cfg, q, n, d);
     stages::apply(cfg, d, s)
 }
 

@@ -1,16 +1,15 @@
 // model/specs/Units and Limits: the dead band, and the limits in force.
 ghost use mathlib.Core.Path.{_≡_};
 ghost use Rattle.model.specs.Units.{deadBand};
-ghost use Rattle.model.specs.Limits.{minHeatSetpoint, maxHeatSetpoint, minCoolSetpoint, maxCoolSetpoint, inHeatLimits, inCoolLimits, clampHeatSetpoint, clampCoolSetpoint};
+ghost use Rattle.model.specs.Limits.{minHeatSetpoint, maxHeatSetpoint, minCoolSetpoint, maxCoolSetpoint};
 use records::Config;
 use records::Settings;
 use units::Hundredths;
-use units::Wide;
 
 pub fn dead_band(cfg: Config) -> Hundredths
     ensures { λ r. ⌜ r ≡ deadBand cfg ⌝ }
 {
-    if served::auto(cfg) {
+    if features::auto(cfg) {
         return units::in_hundredths(cfg.deadband);
     }
     Hundredths::ZERO
@@ -50,28 +49,4 @@ pub fn max_cool_setpoint(cfg: Config, s: Settings) -> Hundredths
         return s.maxcool;
     }
     cfg.absmaxcool
-}
-
-pub fn in_heat_limits(cfg: Config, s: Settings, v: Hundredths) -> bool
-    ensures { λ r. ⌜ r ≡ inHeatLimits cfg s v ⌝ }
-{
-    ranges::is_within(v, min_heat_setpoint(cfg, s), max_heat_setpoint(cfg, s))
-}
-
-pub fn in_cool_limits(cfg: Config, s: Settings, v: Hundredths) -> bool
-    ensures { λ r. ⌜ r ≡ inCoolLimits cfg s v ⌝ }
-{
-    ranges::is_within(v, min_cool_setpoint(cfg, s), max_cool_setpoint(cfg, s))
-}
-
-pub fn clamp_heat_setpoint(cfg: Config, s: Settings, v: Wide) -> Hundredths
-    ensures { λ r. ⌜ r ≡ clampHeatSetpoint cfg s v ⌝ }
-{
-    ranges::clamp(v, min_heat_setpoint(cfg, s), max_heat_setpoint(cfg, s))
-}
-
-pub fn clamp_cool_setpoint(cfg: Config, s: Settings, v: Wide) -> Hundredths
-    ensures { λ r. ⌜ r ≡ clampCoolSetpoint cfg s v ⌝ }
-{
-    ranges::clamp(v, min_cool_setpoint(cfg, s), max_cool_setpoint(cfg, s))
 }

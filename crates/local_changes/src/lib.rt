@@ -110,6 +110,6 @@ pub fn attribute_local_setpoint_change(cfg: Config, d: Readings, r: Controller, 
 {
     let change = r.change;
     let old = change.attributed;
-    let pair = attribution::served_setpoints(cfg, r.attrs.settings);
+    let pair = claims::served_setpoints(cfg, r.attrs.settings);
     attribute_to(cfg, d, r, n, old, pair)
 }

@@ -22,7 +22,8 @@ pub fn write_system_mode(cfg: Config, r: Controller, d: Readings, v: u8) -> Answ
     let n = Notices::none();
     let mut s = r.attrs.settings;
     s.mode = v;
-    let q = attrs::with_attrs(r, attrs::update_attrs(r.attrs, s));
+    let mut q = r;
+    q.attrs = attrs::update_attrs(r.attrs, s);
     let mut o = stages::apply(cfg, d, Stage { rec: q, notices: n });
     let m = answers::notify(cfg, o.notices, 0x1C);
     o.notices = m;

@@ -1,7 +1,6 @@
-// model/specs/Modes: supported modes, counted relays, running mode.
+// model/specs/Modes: control sequences and supported modes.
 ghost use mathlib.Core.Path.{_≡_};
-ghost use mathlib.Core.Bool.{cond};
-ghost use Rattle.model.specs.Modes.{sequenceHeats, sequenceCools, isSupportedSystemMode, relayMask, runningState, runningMode};
+ghost use Rattle.model.specs.Modes.{sequenceHeats, sequenceCools, isSupportedSystemMode};
 use records::Config;
 
 pub fn sequence_heats(cfg: Config) -> bool
@@ -22,43 +21,8 @@ pub fn sequence_cools(cfg: Config) -> bool
 pub fn is_supported_system_mode(cfg: Config, mode: u8) -> bool
     ensures { λ r. ⌜ r ≡ isSupportedSystemMode cfg mode ⌝ }
 {
-    let auto = served::auto(cfg);
+    let auto = features::auto(cfg);
     let cools = sequence_cools(cfg);
     let heats = sequence_heats(cfg);
     ((mode == 0) | ((mode == 1) & auto)) | (((mode == 3) & cools) | ((mode == 4) & heats))
-}
-
-fn bits_if(t: bool, bits: u16) -> u16
-    ensures { λ r. ⌜ r ≡ cond t bits 0 ⌝ }
-{
-    if t {
-        return bits;
-    }
-    0
-}
-
-fn relay_mask(cfg: Config) -> u16
-    ensures { λ r. ⌜ r ≡ relayMask cfg ⌝ }
-{
-    let heat = bits_if(sequence_heats(cfg), 0x09);
-    let cool = bits_if(sequence_cools(cfg), 0x12);
-    0x64 | (heat | cool)
-}
-
-pub fn running_state(cfg: Config, relays: u16) -> u16
-    ensures { λ r. ⌜ r ≡ runningState cfg relays ⌝ }
-{
-    relays & relay_mask(cfg)
-}
-
-pub fn running_mode(counted: u16) -> u8
-    ensures { λ r. ⌜ r ≡ runningMode counted ⌝ }
-{
-    if counted & 0x09 != 0 {
-        return 4;
-    }
-    if counted & 0x12 != 0 {
-        return 3;
-    }
-    0
 }

@@ -12,8 +12,8 @@ use units::Tenths;
 fn names_absent_side(cfg: Config, mode: u8) -> bool
     ensures { λ r. ⌜ r ≡ spec.namesAbsentSide cfg mode ⌝ }
 {
-    let heats = served::heats(cfg);
-    let cools = served::cools(cfg);
+    let heats = features::heats(cfg);
+    let cools = features::cools(cfg);
     ((mode == 0) & !heats) | ((mode == 1) & !cools)
 }
 

@@ -82,8 +82,8 @@ fn raise_cooling_if(
 fn raise_both(cfg: Config, r: Controller, n: Notices, d: Readings, amount: Tenths) -> Stage
     ensures { λ q. ⌜ q ≡ staged n (spec.raiseBoth cfg d amount r) ⌝ }
 {
-    let heats = served::heats(cfg);
-    let cools = served::cools(cfg);
+    let heats = features::heats(cfg);
+    let cools = features::cools(cfg);
     let h = raise_heating_if(heats, cfg, r, n, d, amount);
     let q = h.rec;
     let m = h.notices;

@@ -59,7 +59,7 @@ fn clamp_max_cool(cfg: Config, a: Attrs) -> Attrs
 fn pulls_heat_limits(cfg: Config) -> bool
     ensures { λ r. ⌜ r ≡ auto cfg && hasHeatLimits cfg ⌝ }
 {
-    let auto = served::auto(cfg);
+    let auto = features::auto(cfg);
     let limits = served::has_heat_limits(cfg);
     auto & limits
 }
@@ -91,9 +91,9 @@ fn pull_max_heat(cfg: Config, a: Attrs) -> Attrs
 fn clamp_heating(cfg: Config, a: Attrs) -> Attrs
     ensures { λ r. ⌜ r ≡ spec.clampHeating cfg a ⌝ }
 {
-    if served::heats(cfg) {
+    if features::heats(cfg) {
         let mut s = a.settings;
-        s.heating = limits::clamp_heat_setpoint(cfg, a.settings, units::widen(s.heating));
+        s.heating = clamps::clamp_heat_setpoint(cfg, a.settings, units::widen(s.heating));
         return attrs::update_attrs(a, s);
     }
     a
@@ -102,9 +102,9 @@ fn clamp_heating(cfg: Config, a: Attrs) -> Attrs
 fn clamp_cooling(cfg: Config, a: Attrs) -> Attrs
     ensures { λ r. ⌜ r ≡ spec.clampCooling cfg a ⌝ }
 {
-    if served::cools(cfg) {
+    if features::cools(cfg) {
         let mut s = a.settings;
-        s.cooling = limits::clamp_cool_setpoint(cfg, a.settings, units::widen(s.cooling));
+        s.cooling = clamps::clamp_cool_setpoint(cfg, a.settings, units::widen(s.cooling));
         return attrs::update_attrs(a, s);
     }
     a
@@ -113,11 +113,11 @@ fn clamp_cooling(cfg: Config, a: Attrs) -> Attrs
 fn push_cooling(cfg: Config, a: Attrs) -> Attrs
     ensures { λ r. ⌜ r ≡ spec.pushCooling cfg a ⌝ }
 {
-    if served::auto(cfg) {
+    if features::auto(cfg) {
         let mut s = a.settings;
         let w = units::add(s.heating, limits::dead_band(cfg));
         let g = ranges::max(units::widen(s.cooling), w);
-        s.cooling = limits::clamp_cool_setpoint(cfg, a.settings, g);
+        s.cooling = clamps::clamp_cool_setpoint(cfg, a.settings, g);
         return attrs::update_attrs(a, s);
     }
     a
@@ -126,11 +126,11 @@ fn push_cooling(cfg: Config, a: Attrs) -> Attrs
 fn push_heating(cfg: Config, a: Attrs) -> Attrs
     ensures { λ r. ⌜ r ≡ spec.pushHeating cfg a ⌝ }
 {
-    if served::auto(cfg) {
+    if features::auto(cfg) {
         let mut s = a.settings;
         let w = units::sub(s.cooling, limits::dead_band(cfg));
         let l = ranges::min(units::widen(s.heating), w);
-        s.heating = limits::clamp_heat_setpoint(cfg, a.settings, l);
+        s.heating = clamps::clamp_heat_setpoint(cfg, a.settings, l);
         return attrs::update_attrs(a, s);
     }
     a
@@ -173,7 +173,9 @@ pub fn repair_record(cfg: Config, r: Controller, a: Attrs) -> Answer
     ensures { λ q. ⌜ q ≡ answer (spec.repairedRecord cfg r a) ⌝ }
 {
     let b = repair(cfg, a);
-    let q = orders::ask_sweep(cfg, attrs::with_attrs(r, b));
+    let mut p = r;
+    p.attrs = b;
+    let q = orders::ask_sweep(cfg, p);
     let o = orders::order_of(b.settings);
     let n = Notices::none();
     let e = Events::none();

@@ -34,20 +34,22 @@ pub fn plain_message(r: Controller, bits: u16) -> Answer
 pub fn heating_message(cfg: Config, r: Controller, v: Hundredths) -> Answer
     ensures { λ q. ⌜ q ≡ answer (spec.heatingMessage cfg r v) ⌝ }
 {
-    let w = limits::clamp_heat_setpoint(cfg, r.attrs.settings, units::widen(v));
+    let w = clamps::clamp_heat_setpoint(cfg, r.attrs.settings, units::widen(v));
     let mut s = r.attrs.settings;
     s.heating = w;
-    let q = attrs::with_attrs(r, attrs::update_attrs(r.attrs, s));
+    let mut q = r;
+    q.attrs = attrs::update_attrs(r.attrs, s);
     plain_message(q, PENDING_OCCUPIED_HEATING_SETPOINT)
 }
 
 pub fn cooling_message(cfg: Config, r: Controller, v: Hundredths) -> Answer
     ensures { λ q. ⌜ q ≡ answer (spec.coolingMessage cfg r v) ⌝ }
 {
-    let w = limits::clamp_cool_setpoint(cfg, r.attrs.settings, units::widen(v));
+    let w = clamps::clamp_cool_setpoint(cfg, r.attrs.settings, units::widen(v));
     let mut s = r.attrs.settings;
     s.cooling = w;
-    let q = attrs::with_attrs(r, attrs::update_attrs(r.attrs, s));
+    let mut q = r;
+    q.attrs = attrs::update_attrs(r.attrs, s);
     plain_message(q, PENDING_OCCUPIED_COOLING_SETPOINT)
 }
 
@@ -59,6 +61,7 @@ pub fn mode_message(cfg: Config, r: Controller, v: u8) -> Answer
     }
     let mut s = r.attrs.settings;
     s.mode = v;
-    let q = attrs::with_attrs(r, attrs::update_attrs(r.attrs, s));
+    let mut q = r;
+    q.attrs = attrs::update_attrs(r.attrs, s);
     plain_message(q, PENDING_SYSTEM_MODE)
 }

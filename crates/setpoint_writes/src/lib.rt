@@ -23,7 +23,7 @@ pub fn write_occupied_heating_setpoint(
     if !served::serves(cfg, 0x12) {
         return orders::quiet_answer(24, r);
     }
-    if !limits::in_heat_limits(cfg, r.attrs.settings, v) {
+    if !clamps::in_heat_limits(cfg, r.attrs.settings, v) {
         return orders::quiet_answer(22, r);
     }
     let s = stores::store_heating_setpoint(cfg, r, Notices::none(), d, attribution::EXTERNAL, v);
@@ -44,7 +44,7 @@ pub fn write_occupied_cooling_setpoint(
     if !served::serves(cfg, 0x11) {
         return orders::quiet_answer(24, r);
     }
-    if !limits::in_cool_limits(cfg, r.attrs.settings, v) {
+    if !clamps::in_cool_limits(cfg, r.attrs.settings, v) {
         return orders::quiet_answer(22, r);
     }
     let s = stores::store_cooling_setpoint(cfg, r, Notices::none(), d, attribution::EXTERNAL, v);

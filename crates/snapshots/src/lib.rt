@@ -13,8 +13,8 @@ pub fn snapshot(cfg: Config, d: Readings, r: Controller) -> Snapshot
 {
     let t = d.temperature;
     let reported = temperature::reported_local_temperature(cfg, t);
-    let relays = modes::running_state(cfg, d.relaysbefore);
-    let mode = modes::running_mode(relays);
+    let relays = relays::running_state(cfg, d.relaysbefore);
+    let mode = relays::running_mode(relays);
     Snapshot::first(reported, r.attrs.settings, relays, mode)
 }
 

@@ -27,7 +27,7 @@ fn sound_cool_limits(cfg: Config, s: Settings) -> bool
 fn sound_gap(cfg: Config, s: Settings) -> bool
     ensures { λ r. ⌜ r ≡ spec.soundGap cfg s ⌝ }
 {
-    let auto = served::auto(cfg);
+    let auto = features::auto(cfg);
     let limits = served::has_heat_limits(cfg);
     let d = limits::dead_band(cfg);
     let low = units::is_above(s.minheat, units::sub(s.mincool, d));
@@ -38,16 +38,16 @@ fn sound_gap(cfg: Config, s: Settings) -> bool
 fn sound_heating(cfg: Config, s: Settings) -> bool
     ensures { λ r. ⌜ r ≡ spec.soundHeating cfg s ⌝ }
 {
-    let heats = served::heats(cfg);
-    let inside = limits::in_heat_limits(cfg, s, s.heating);
+    let heats = features::heats(cfg);
+    let inside = clamps::in_heat_limits(cfg, s, s.heating);
     !heats | inside
 }
 
 fn sound_cooling(cfg: Config, s: Settings) -> bool
     ensures { λ r. ⌜ r ≡ spec.soundCooling cfg s ⌝ }
 {
-    let cools = served::cools(cfg);
-    let inside = limits::in_cool_limits(cfg, s, s.cooling);
+    let cools = features::cools(cfg);
+    let inside = clamps::in_cool_limits(cfg, s, s.cooling);
     !cools | inside
 }
 

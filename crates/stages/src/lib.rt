@@ -43,8 +43,8 @@ pub fn notify_change(cfg: Config, n: Notices, moved: bool, code: u16) -> Notices
 fn have_relays_moved(cfg: Config, d: Readings) -> bool
     ensures { λ r. ⌜ r ≡ not (eqb (runningState cfg (d .relaysbefore)) (runningState cfg (d .relaysafter))) ⌝ }
 {
-    let before = modes::running_state(cfg, d.relaysbefore);
-    let after = modes::running_state(cfg, d.relaysafter);
+    let before = relays::running_state(cfg, d.relaysbefore);
+    let after = relays::running_state(cfg, d.relaysafter);
     before != after
 }
 

@@ -19,5 +19,5 @@ pub fn start(cfg: Config, d: Readings, r: Controller) -> Controller
     };
     let mut q = r;
     q.events = f;
-    attribution::claim_setpoints(cfg, q)
+    claims::claim_setpoints(cfg, q)
 }

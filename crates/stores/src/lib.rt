@@ -52,7 +52,7 @@ pub fn store_heating_setpoint(
     let mut q = r;
     q.attrs = attrs::update_attrs(a, t);
     q.change = record_if(moved, d, source, old, v, c);
-    let k = attribution::claim_setpoints(cfg, q);
+    let k = claims::claim_setpoints(cfg, q);
     let m = stages::notify_change(cfg, n, moved, 0x12);
     let p = answers::notify_if(cfg, m, pushed, 0x11);
     Stage { rec: k, notices: p }
@@ -81,7 +81,7 @@ pub fn store_cooling_setpoint(
     let mut q = r;
     q.attrs = attrs::update_attrs(a, t);
     q.change = record_if(moved, d, source, old, v, c);
-    let k = attribution::claim_setpoints(cfg, q);
+    let k = claims::claim_setpoints(cfg, q);
     let m = stages::notify_change(cfg, n, moved, 0x11);
     let p = answers::notify_if(cfg, m, pushed, 0x12);
     Stage { rec: k, notices: p }

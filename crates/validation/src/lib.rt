@@ -70,9 +70,9 @@ fn tells_events(cfg: Config) -> bool
 fn validate_features(cfg: Config, rest: u8) -> u8
     ensures { λ r. ⌜ r ≡ thenRows (featureRows cfg) rest ⌝ }
 {
-    let heats = served::heats(cfg);
-    let cools = served::cools(cfg);
-    let auto = served::auto(cfg);
+    let heats = features::heats(cfg);
+    let cools = features::cools(cfg);
+    let auto = features::auto(cfg);
     let known = (cfg.features | 0x263) == 0x263;
     let right = cfg.revision == 11;
     let n4 = row(4, auto & !(heats & cools), rest);
@@ -93,9 +93,9 @@ fn validate_attribute(cfg: Config, code: u16, wanted: bool, rest: u8) -> u8
 fn validate_attributes(cfg: Config, rest: u8) -> u8
     ensures { λ r. ⌜ r ≡ thenRows (attributeRows cfg) rest ⌝ }
 {
-    let heats = served::heats(cfg);
-    let cools = served::cools(cfg);
-    let auto = served::auto(cfg);
+    let heats = features::heats(cfg);
+    let cools = features::cools(cfg);
+    let auto = features::auto(cfg);
     let n6 = validate_attribute(cfg, 0x19, auto, rest);
     let n5 = validate_attribute(cfg, 0x11, cools, n6);
     let n4 = validate_attribute(cfg, 0x12, heats, n5);
@@ -108,9 +108,9 @@ fn validate_attributes(cfg: Config, rest: u8) -> u8
 fn validate_limit_sets(cfg: Config, rest: u8) -> u8
     ensures { λ r. ⌜ r ≡ thenRows (limitRows cfg) rest ⌝ }
 {
-    let heats = served::heats(cfg);
-    let cools = served::cools(cfg);
-    let auto = served::auto(cfg);
+    let heats = features::heats(cfg);
+    let cools = features::cools(cfg);
+    let auto = features::auto(cfg);
     let heat = served::has_heat_limits(cfg);
     let cool = served::has_cool_limits(cfg);
     let some_heat = has_some_heat_limit(cfg);
@@ -137,8 +137,8 @@ fn validate_event(cfg: Config, code: u16, applies: bool, rest: u8) -> u8
 fn validate_events(cfg: Config, rest: u8) -> u8
     ensures { λ r. ⌜ r ≡ thenRows (eventRows cfg) rest ⌝ }
 {
-    let hides = served::hides_temperature(cfg);
-    let auto = served::auto(cfg);
+    let hides = features::hides_temperature(cfg);
+    let auto = features::auto(cfg);
     let occupancy = served::emits(cfg, 2);
     let schedule = served::emits(cfg, 6);
     let preset = served::emits(cfg, 7);
@@ -156,9 +156,9 @@ fn validate_events(cfg: Config, rest: u8) -> u8
 fn validate_numbers(cfg: Config, rest: u8) -> u8
     ensures { λ r. ⌜ r ≡ thenRows (numberRows cfg) rest ⌝ }
 {
-    let auto = served::auto(cfg);
-    let heats = differ(served::heats(cfg), modes::sequence_heats(cfg));
-    let cools = differ(served::cools(cfg), modes::sequence_cools(cfg));
+    let auto = features::auto(cfg);
+    let heats = differ(features::heats(cfg), modes::sequence_heats(cfg));
+    let cools = differ(features::cools(cfg), modes::sequence_cools(cfg));
     let d = limits::dead_band(cfg);
     let low = units::is_above(cfg.absminheat, units::sub(cfg.absmincool, d));
     let high = units::is_above(cfg.absmaxheat, units::sub(cfg.absmaxcool, d));

@@ -15,5 +15,4 @@ store-limit-spec =
     (λ c κs. tt)
     (λ c κs. tt)
     (λ c κs. tt)
-    (λ c κs. tt)
-    (λ c. simp (push-all-append, append-assoc, c .apply .ensures, c .before .pull .ensures, c .before .before .with-attrs .ensures, c .before .before .before .notify .ensures, c .before .before .before .before .none .ensures)))
+    (λ c. simp (push-all-append, append-assoc, c .apply .ensures, c .before .pull .ensures, c .before .before .notify .ensures, c .before .before .before .none .ensures)))

@@ -23,5 +23,4 @@ write-system-mode-spec =
     (λ c κs. tt)
     (λ c κs. tt)
     (λ c κs. tt)
-    (λ c κs. tt)
-    (λ c. simp (push-all-append, c .notify .ensures, c .before .apply .ensures, c .before .before .with-attrs .ensures, c .before .before .before .update-attrs .ensures, c .before .before .before .before .before .none .ensures, ap not (sym (c .before .before .before .before .before .before .before .is-supported-system-mode .ensures)) ∙ c .before .before .before .before .before .before .if2 .left, ap not (sym (c .before .before .before .before .before .before .before .before .before .is-sound .ensures)) ∙ c .before .before .before .before .before .before .before .before .if1 .left)))
+    (λ c. simp (push-all-append, c .notify .ensures, c .before .apply .ensures, c .before .before .update-attrs .ensures, c .before .before .before .before .none .ensures, ap not (sym (c .before .before .before .before .before .before .is-supported-system-mode .ensures)) ∙ c .before .before .before .before .before .if2 .left, ap not (sym (c .before .before .before .before .before .before .before .before .is-sound .ensures)) ∙ c .before .before .before .before .before .before .before .if1 .left)))

@@ -1,3 +1,4 @@
+use borrow.Author.Needs.{needs}
 use Rattle.model.specs.Answers.{packed, pushAll, packedEvents, emitAll}
 use Rattle.repair.proofs.repair_record.Statement.{statement}
 use Rattle.repair.proofs.repair_record.Tie as tie
@@ -11,6 +12,5 @@ repair-record-spec =
     (λ c κs. tt)
     (λ c κs. tt)
     (λ c κs. tt)
-    (λ c κs. tt)
-    (λ c κs. tt)
-    (λ c. simp (c .none2 .ensures, c .before .none .ensures, c .before .before .order-of .ensures, c .before .before .before .ask-sweep .ensures, c .before .before .before .before .with-attrs .ensures, c .before .before .before .before .before .repair .ensures)))
+    (λ c. search needs)
+    (λ c. simp (c .none2 .ensures, c .before .none .ensures, c .before .before .order-of .ensures, c .before .before .before .ask-sweep .ensures, c .before .before .before .before .repair .ensures)))

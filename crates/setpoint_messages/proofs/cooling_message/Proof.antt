@@ -11,5 +11,4 @@ cooling-message-spec =
     (λ c κs. tt)
     (λ c κs. tt)
     (λ c κs. tt)
-    (λ c κs. tt)
-    (λ c. simp (c .plain-message .ensures, c .before .with-attrs .ensures, c .before .before .update-attrs .ensures, c .before .before .before .before .clamp-cool-setpoint .ensures, c .before .before .before .before .before .widen .ensures)))
+    (λ c. simp (c .plain-message .ensures, c .before .update-attrs .ensures, c .before .before .before .clamp-cool-setpoint .ensures, c .before .before .before .before .widen .ensures)))

@@ -15,5 +15,4 @@ mode-message-spec =
     (λ c. simp (c .quiet-answer .ensures, ap not (sym (c .before .before .is-supported-system-mode .ensures)) ∙ c .before .if1 .taken))
     (λ c κs. tt)
     (λ c κs. tt)
-    (λ c κs. tt)
-    (λ c. simp (c .plain-message .ensures, c .before .with-attrs .ensures, c .before .before .update-attrs .ensures, ap not (sym (c .before .before .before .before .before .is-supported-system-mode .ensures)) ∙ c .before .before .before .before .if1 .left)))
+    (λ c. simp (c .plain-message .ensures, c .before .update-attrs .ensures, ap not (sym (c .before .before .before .before .is-supported-system-mode .ensures)) ∙ c .before .before .before .if1 .left)))
