@@ -1,0 +1,97 @@
+// What a line does to the controller, and what is written of it.
+ghost use mathlib.Core.Path.{_≡_};
+ghost use Rattle.text.specs.Pages.{Room, Within};
+ghost use Rattle.sessions.specs.Sessions.{configured, answered};
+use lines::Line;
+use records::Answer;
+use records::Call;
+use records::Config;
+use records::Controller;
+use records::Moment;
+use text::Page;
+use text::Value;
+
+pub(crate) fn config_after(c: Config, line: Line) -> Config
+    ensures { λ r. ⌜ r ≡ configured c line ⌝ }
+{
+    match line {
+        Line::Config(given) => given,
+        _ => c,
+    }
+}
+
+// Of a line that asks nothing of the controller, a quiet answer with the record that it leaves.
+pub(crate) fn answer_to(c: Config, r: Controller, line: Line) -> Answer
+    ensures { λ q. ⌜ q ≡ answered c r line ⌝ }
+{
+    match line {
+        Line::Open(settings, _) => opening::open(c, settings),
+        Line::Call(k, d) => controller::step(c, r, d, k),
+        Line::Record(given) => orders::quiet_answer(0, given),
+        _ => orders::quiet_answer(0, r),
+    }
+}
+
+fn is_deadline(k: Call) -> bool {
+    match k {
+        Call::Deadline => true,
+        _ => false,
+    }
+}
+
+fn moment(m: Moment) -> Value {
+    match m {
+        Moment::Never => Value::Absent,
+        Moment::Ms(n) => Value::Number(n),
+    }
+}
+
+fn end_line(page: &mut Page, at: usize) -> usize
+    requires { ⌜ Room at 32 ⌝ }
+    ensures { λ r. ⌜ Within at 32 r ⌝ }
+{
+    text::field(page, at, text::NEWLINE, Value::Empty)
+}
+
+// A deadline query has its deadline besides.
+fn finish(page: &mut Page, at: usize, with_deadline: bool, m: Moment) -> usize
+    requires { ⌜ Room at 64 ⌝ }
+    ensures { λ r. ⌜ Within at 64 r ⌝ }
+{
+    if with_deadline {
+        let b = text::field(page, at, text::DEADLINE, moment(m));
+        return end_line(page, b);
+    }
+    end_line(page, at)
+}
+
+fn write_answer(page: &mut Page, at: usize, a: Answer, with_deadline: bool) -> usize
+    requires { ⌜ Room at 2304 ⌝ }
+    ensures { λ r. ⌜ Within at 2304 r ⌝ }
+{
+    let b = printing::answer(page, at, a);
+    let m = a.deadline;
+    finish(page, b, with_deadline, m)
+}
+
+// A line that cannot be read is told by its number.
+fn write_error(page: &mut Page, at: usize, line: u64) -> usize
+    requires { ⌜ Room at 64 ⌝ }
+    ensures { λ r. ⌜ Within at 64 r ⌝ }
+{
+    let b = text::field(page, at, text::ERROR, Value::Number(line));
+    end_line(page, b)
+}
+
+pub(crate) fn write_reply(page: &mut Page, at: usize, number: u64, line: Line, a: Answer) -> usize
+    requires { ⌜ Room at 2304 ⌝ }
+    ensures { λ r. ⌜ Within at 2304 r ⌝ }
+{
+    match line {
+        Line::Nothing => at,
+        Line::Unreadable => write_error(page, at, number),
+        Line::Open(_, _) => write_answer(page, at, a, false),
+        Line::Call(k, _) => write_answer(page, at, a, is_deadline(k)),
+        _ => text::field(page, at, text::OK, Value::Empty),
+    }
+}
