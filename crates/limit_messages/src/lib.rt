@@ -50,5 +50,5 @@ pub fn limits_message(
     ensures { λ q. ⌜ q ≡ answer (spec.limitsMessage cfg r minh maxh minc maxc) ⌝ }
 {
     let a = take_limits(cfg, r.attrs, minh, maxh, minc, maxc);
-    with_bits(repair::repair_record(cfg, r, a), PENDING_LIMITS)
+    with_bits(record_repair::repair_record(cfg, r, a), PENDING_LIMITS)
 }

@@ -21,5 +21,5 @@ pub fn open(cfg: Config, settings: Settings) -> Answer
         settings: settings,
         dirty: false,
     };
-    repair::repair_record(cfg, blank, a)
+    record_repair::repair_record(cfg, blank, a)
 }

@@ -1,16 +1,10 @@
 // model/specs/Repair: each step by itself, on the settings with their dirty mark.
 ghost use mathlib.Core.Path.{_≡_};
 ghost use mathlib.Core.Bool.{_&&_};
-ghost use Rattle.model.specs.Answers.{answer};
 ghost use Rattle.model.specs.Served.{auto, hasHeatLimits};
 ghost use Rattle.model.specs.Repair as spec;
-use records::Answer;
 use records::Attrs;
 use records::Config;
-use records::Controller;
-use records::Events;
-use records::Moment;
-use records::Notices;
 
 fn clamp_min_heat(cfg: Config, a: Attrs) -> Attrs
     ensures { λ r. ⌜ r ≡ spec.clampMinHeat cfg a ⌝ }
@@ -166,25 +160,4 @@ pub fn repair(cfg: Config, a: Attrs) -> Attrs
     ensures { λ r. ⌜ r ≡ spec.repaired cfg a ⌝ }
 {
     repair_mode(cfg, repair_setpoints(cfg, repair_limits(cfg, a)))
-}
-
-// Repair of a record: no notices, whatever the relays do, and a plant order.
-pub fn repair_record(cfg: Config, r: Controller, a: Attrs) -> Answer
-    ensures { λ q. ⌜ q ≡ answer (spec.repairedRecord cfg r a) ⌝ }
-{
-    let b = repair(cfg, a);
-    let mut p = r;
-    p.attrs = b;
-    let q = orders::ask_sweep(cfg, p);
-    let o = orders::order_of(b.settings);
-    let n = Notices::none();
-    let e = Events::none();
-    Answer {
-        number: 0,
-        rec: q,
-        order: o,
-        notices: n,
-        events: e,
-        deadline: Moment::Never,
-    }
 }

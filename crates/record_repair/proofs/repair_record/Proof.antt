@@ -1,7 +1,7 @@
 use borrow.Author.Needs.{needs}
 use Rattle.model.specs.Answers.{packed, pushAll, packedEvents, emitAll}
-use Rattle.repair.proofs.repair_record.Statement.{statement}
-use Rattle.repair.proofs.repair_record.Tie as tie
+use Rattle.record_repair.proofs.repair_record.Statement.{statement}
+use Rattle.record_repair.proofs.repair_record.Tie as tie
 
 pub repair-record-spec : {M : Type 1} → statement M
 unfolding packed pushAll packedEvents emitAll
