@@ -1,42 +1,48 @@
 // The call that a line names.
 use crate::fields::Fields;
 use crate::forms;
+use crate::signed::as_tenths;
 use records::Call;
 use records::OutOfBandMessage;
 
-fn message_of(row: usize, f: Fields) -> OutOfBandMessage {
+fn message_of(f: Fields) -> OutOfBandMessage {
+    let row = f.row;
+    let h = f.hundredths(0);
     match row {
-        forms::OOB_HEAT => OutOfBandMessage::OccupiedHeatingSetpoint(f.hundredths(0)),
-        forms::OOB_COOL => OutOfBandMessage::OccupiedCoolingSetpoint(f.hundredths(0)),
-        forms::OOB_MODE => OutOfBandMessage::SystemMode(f.byte(0)),
-        forms::OOB_LIMITS => OutOfBandMessage::SetpointLimits(
-            f.hundredths(0),
+        forms::OOB_HEAT => return OutOfBandMessage::OccupiedHeatingSetpoint(h),
+        forms::OOB_COOL => return OutOfBandMessage::OccupiedCoolingSetpoint(h),
+        forms::OOB_MODE => return OutOfBandMessage::SystemMode(f.byte(0)),
+        forms::OOB_LIMITS => return OutOfBandMessage::SetpointLimits(
+            h,
             f.hundredths(1),
             f.hundredths(2),
             f.hundredths(3),
         ),
-        forms::OOB_TEMP => OutOfBandMessage::LocalTemperature,
-        forms::OOB_RUNNING => OutOfBandMessage::RunningState,
-        _ => OutOfBandMessage::Update,
+        forms::OOB_TEMP => return OutOfBandMessage::LocalTemperature,
+        forms::OOB_RUNNING => return OutOfBandMessage::RunningState,
+        _ => return OutOfBandMessage::Update,
     }
 }
 
-pub(crate) fn call_of(row: usize, f: Fields) -> Call {
+pub(crate) fn call_of(f: Fields) -> Call {
+    let row = f.row;
+    let h = f.hundredths(0);
+    let b = f.byte(0);
     match row {
-        forms::HEAT => Call::WriteOccupiedHeatingSetpoint(f.hundredths(0)),
-        forms::COOL => Call::WriteOccupiedCoolingSetpoint(f.hundredths(0)),
-        forms::MIN_HEAT => Call::WriteMinHeatSetpointLimit(f.hundredths(0)),
-        forms::MAX_HEAT => Call::WriteMaxHeatSetpointLimit(f.hundredths(0)),
-        forms::MIN_COOL => Call::WriteMinCoolSetpointLimit(f.hundredths(0)),
-        forms::MAX_COOL => Call::WriteMaxCoolSetpointLimit(f.hundredths(0)),
-        forms::MODE => Call::WriteSystemMode(f.byte(0)),
-        forms::SEQUENCE => Call::SetControlSequenceOfOperation(f.byte(0)),
-        forms::RAISE => Call::RaiseLowerSetpoint(f.byte(0), f.tenths(1)),
+        forms::HEAT => Call::WriteOccupiedHeatingSetpoint(h),
+        forms::COOL => Call::WriteOccupiedCoolingSetpoint(h),
+        forms::MIN_HEAT => Call::WriteMinHeatSetpointLimit(h),
+        forms::MAX_HEAT => Call::WriteMaxHeatSetpointLimit(h),
+        forms::MIN_COOL => Call::WriteMinCoolSetpointLimit(h),
+        forms::MAX_COOL => Call::WriteMaxCoolSetpointLimit(h),
+        forms::MODE => Call::WriteSystemMode(b),
+        forms::SEQUENCE => Call::SetControlSequenceOfOperation(b),
+        forms::RAISE => Call::RaiseLowerSetpoint(b, as_tenths(f.hundredths(1))),
         forms::ARM => Call::ArmClock,
         forms::START => Call::SeedEvents,
         forms::SWEEP => Call::Sweep,
         forms::TIMER => Call::Timer,
         forms::DEADLINE => Call::Deadline,
-        _ => Call::OutOfBand(message_of(row, f)),
+        _ => Call::OutOfBand(message_of(f)),
     }
 }

@@ -1,65 +1,82 @@
-// The words of a line after the first, each held to its letter.
+// The words of a line, held to its form.
+ghost use Prim.Native.Nat.{_<_};
 use crate::forms;
 use crate::forms::NUMBERS;
 use crate::letters;
+use crate::numbers;
+use crate::numbers::Number;
 use words::Field;
 
-pub struct Slot {
-    pub field: Field,
+// The words after the first, each at its letter's place in the row, and none where there is no word. The next word's place
+// is `next`. The row is that of no form where a word does not fit its letter.
+pub struct Fields {
+    pub slots: [Number; NUMBERS],
+    pub next: usize,
+    pub row: usize,
 }
 
-// The first `count` are the words. Sound: each fits its letter, and the line may end there.
-pub struct Fields {
-    pub slots: [Slot; NUMBERS],
-    pub count: usize,
-    pub sound: bool,
+fn row_if(t: bool, row: usize) -> usize {
+    if t {
+        return row;
+    }
+    forms::ROWS
+}
+
+// The place after a letter's.
+fn after(letter: u8, i: usize) -> usize
+    requires { ⌜ i < 22 ⌝ }
+{
+    if letter == b'@' {
+        return forms::READINGS;
+    }
+    i + 1
 }
 
 impl Fields {
-    pub(crate) fn none() -> Fields {
-        Fields {
-            slots: [Slot {
-                field: Field::Nothing,
-            }; NUMBERS],
-            count: 0,
-            sound: true,
-        }
-    }
-
-    // One word more. One that does not fit its letter spoils the line, and so does one too many.
-    pub(crate) fn push(self, f: Field, letter: u8) -> Fields {
-        let n = self.count;
+    // One word more.
+    fn push(self, f: Field) -> Fields {
+        let i = self.next;
+        let letter = forms::letter(self.row, i);
         let mut m = self;
-        if n < NUMBERS {
-            m.slots[n] = Slot { field: f };
-            m.count = n + 1;
-            m.sound = self.sound & letters::fits(letter, f);
-            return m;
+        m.row = row_if(letters::fits(letter, f), self.row);
+        if i < NUMBERS {
+            let n = numbers::number_of(f);
+            m.slots[i] = n;
+            m.next = after(letter, i);
         }
-        m.sound = false;
         m
     }
 
-    pub(crate) fn at(self, i: usize) -> Field {
+    // No word more. Of the attributed pair both numbers are there, or neither.
+    fn end(self) -> Fields {
+        let end = letters::is_end(forms::letter(self.row, self.next));
+        let h = self.at(12);
+        let c = self.at(13);
+        let mut m = self;
+        m.row = row_if(end & (h.given == c.given), self.row);
+        m
+    }
+
+    pub(crate) fn at(self, i: usize) -> Number {
         if i < NUMBERS {
-            let s = self.slots[i];
-            return s.field;
+            return self.slots[i];
         }
-        Field::Nothing
+        Number::NONE
     }
 }
 
-// The words after place `from`, by the letters of a row. Before each stands a blank.
-pub(crate) fn fields_of(line: &[u8], from: usize, row: usize) -> Fields {
-    let mut f = Fields::none();
-    let mut at = from;
+// Before each word after the first stands a blank.
+pub(crate) fn fields_of(line: &[u8]) -> Fields {
+    let mut at = bytes::scan::find(line, 0, line.len(), b' ');
+    let mut f = Fields {
+        slots: [Number::NONE; NUMBERS],
+        next: 0,
+        row: forms::row_of(&line[0..at]),
+    };
     while at < line.len() {
         let start = at + 1;
-        let end = bytes::scan::find(line, start, line.len(), b' ');
-        let field = words::field_of(&line[start..end]);
-        f = f.push(field, forms::letter(row, f.count));
-        at = end;
+        at = bytes::scan::find(line, start, line.len(), b' ');
+        f = f.push(words::field_of(&line[start..at]));
     }
-    f.sound = f.sound & letters::is_end(forms::letter(row, f.count));
-    f
+    f.end()
 }

@@ -1,9 +1,14 @@
 // The lines that the console takes: what may stand in them.
 
-// A first word has at most so many bytes, and after it come at most so many numbers.
-const WORD: usize = 10;
+// A row has so many bytes: the first word and a blank, and at most so many numbers.
+const ROW: usize = 33;
+
+const WORD: usize = 11;
 
 pub const NUMBERS: usize = 22;
+
+// The readings stand from this place on, after the mark.
+pub const READINGS: usize = 16;
 
 pub const ROWS: usize = 24;
 
@@ -11,32 +16,32 @@ pub const ROWS: usize = 24;
 //
 // b, w, d and q: unsigned, of 8, 16, 32 and 64 bits. t and h: tenths and hundredths, signed, of 8 and 16 bits. f: 0 or 1.
 // D, Q, H and S: as d, q, h and h, or none. @: the word that begins the readings. A line may end before @, S and a dot.
-const FORMS: [[u8; 32]; ROWS] = [
-    *b"config    wdqqqhhhhtbh..........",
-    *b"open      hhhhhhb@wwHDDq........",
-    *b"record    hhhhhhbfwbHdHHDQShhbwb",
-    *b"heat      h@wwHDDq..............",
-    *b"cool      h@wwHDDq..............",
-    *b"minheat   h@wwHDDq..............",
-    *b"maxheat   h@wwHDDq..............",
-    *b"mincool   h@wwHDDq..............",
-    *b"maxcool   h@wwHDDq..............",
-    *b"mode      b@wwHDDq..............",
-    *b"sequence  b@wwHDDq..............",
-    *b"raise     bt@wwHDDq.............",
-    *b"arm       @wwHDDq...............",
-    *b"start     @wwHDDq...............",
-    *b"sweep     @wwHDDq...............",
-    *b"timer     @wwHDDq...............",
-    *b"deadline  @wwHDDq...............",
-    *b"oobheat   h@wwHDDq..............",
-    *b"oobcool   h@wwHDDq..............",
-    *b"oobmode   b@wwHDDq..............",
-    *b"ooblimits hhhh@wwHDDq...........",
-    *b"oobtemp   @wwHDDq...............",
-    *b"oobrunning@wwHDDq...............",
-    *b"oobupdate @wwHDDq...............",
-];
+const FORMS: [u8; 792] = *b"\
+    config     wdqqqhhhhtbh..........\
+    open       hhhhhhb@........wwHDDq\
+    record     hhhhhhbfwbHdHHDQShhbwb\
+    heat       h@..............wwHDDq\
+    cool       h@..............wwHDDq\
+    minheat    h@..............wwHDDq\
+    maxheat    h@..............wwHDDq\
+    mincool    h@..............wwHDDq\
+    maxcool    h@..............wwHDDq\
+    mode       b@..............wwHDDq\
+    sequence   b@..............wwHDDq\
+    raise      bt@.............wwHDDq\
+    arm        @...............wwHDDq\
+    start      @...............wwHDDq\
+    sweep      @...............wwHDDq\
+    timer      @...............wwHDDq\
+    deadline   @...............wwHDDq\
+    oobheat    h@..............wwHDDq\
+    oobcool    h@..............wwHDDq\
+    oobmode    b@..............wwHDDq\
+    ooblimits  hhhh@...........wwHDDq\
+    oobtemp    @...............wwHDDq\
+    oobrunning @...............wwHDDq\
+    oobupdate  @...............wwHDDq\
+";
 
 // The rows, by their words.
 pub const CONFIG: usize = 0;
@@ -90,8 +95,8 @@ pub const OOB_UPDATE: usize = 23;
 // A byte of the table, and a dot outside it.
 fn cell(row: usize, i: usize) -> u8 {
     if row < ROWS {
-        if i < 32 {
-            return FORMS[row][i];
+        if i < ROW {
+            return FORMS[row * ROW + i];
         }
     }
     b'.'
@@ -105,27 +110,16 @@ pub(crate) fn letter(row: usize, i: usize) -> u8 {
     b'.'
 }
 
-// A byte of a word that is filled up with blanks.
-fn filled(word: &[u8], i: usize) -> u8 {
-    if i < word.len() {
-        return word[i];
-    }
-    b' '
-}
-
 // Whether a word, in which there is no blank, is a row's first word.
 fn is_first(word: &[u8], row: usize) -> bool {
-    if WORD < word.len() {
-        return false;
-    }
     let mut i: usize = 0;
-    while i < WORD {
-        if cell(row, i) != filled(word, i) {
+    while i < word.len() {
+        if word[i] != cell(row, i) {
             return false;
         }
         i += 1;
     }
-    true
+    cell(row, i) == b' '
 }
 
 // The row of a first word, or the count of rows where it is no first word.

@@ -25,35 +25,15 @@ pub enum Line {
     Call(Call, Readings),
 }
 
-// Both numbers of the attributed pair are there, or neither.
-fn record_line(f: Fields) -> Line {
-    if f.given(12) == f.given(13) {
-        return Line::Record(values::record_of(f));
-    }
-    Line::Unreadable
-}
-
-fn sound_line(row: usize, f: Fields) -> Line {
+fn line_of(f: Fields) -> Line {
+    let row = f.row;
     match row {
-        forms::CONFIG => Line::Config(values::config_of(f)),
-        forms::OPEN => Line::Open(values::settings_of(f), values::readings_of(f)),
-        forms::RECORD => record_line(f),
-        _ => Line::Call(calls::call_of(row, f), values::readings_of(f)),
+        forms::CONFIG => return Line::Config(values::config_of(f)),
+        forms::OPEN => return Line::Open(values::settings_of(f), values::readings_of(f)),
+        forms::RECORD => return Line::Record(values::record_of(f)),
+        forms::ROWS => return Line::Unreadable,
+        _ => return Line::Call(calls::call_of(f), values::readings_of(f)),
     }
-}
-
-// A first word, and the words that its row asks for.
-fn worded_line(line: &[u8]) -> Line {
-    let end = bytes::scan::find(line, 0, line.len(), b' ');
-    let row = forms::row_of(&line[0..end]);
-    if row == forms::ROWS {
-        return Line::Unreadable;
-    }
-    let f = fields::fields_of(line, end, row);
-    if f.sound {
-        return sound_line(row, f);
-    }
-    Line::Unreadable
 }
 
 // What a line says, without its newline.
@@ -69,5 +49,5 @@ pub fn read(line: &[u8]) -> Line
     if 250 < line.len() {
         return Line::Unreadable;
     }
-    worded_line(line)
+    line_of(fields::fields_of(line))
 }

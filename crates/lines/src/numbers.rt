@@ -2,7 +2,7 @@
 // letters of a form keep both out.
 ghost use mathlib.Core.Path.{_≡_};
 ghost use Prim.Native.Nat.{_<_};
-ghost use mir.Syntax.{w8, w16};
+ghost use mir.Syntax.{w16};
 ghost use mir.Val.{SFits};
 ghost use Rattle.words.specs.Words.{sizeOf, valueOf, isGiven};
 use crate::fields::Fields;
@@ -12,52 +12,51 @@ use records::Moment;
 use records::Second;
 use records::Temperature;
 use units::Hundredths;
-use units::Tenths;
 use words::Field;
 
-fn size_of(f: Field) -> u64
-    ensures { λ r. ⌜ r ≡ sizeOf f ⌝ }
+pub struct Number {
+    pub given: bool,
+    pub size: u64,
+    pub signed: Hundredths,
+}
+
+impl Number {
+    pub const NONE: Number = Number {
+        given: false,
+        size: 0,
+        signed: Hundredths(0),
+    };
+
+    pub const ZERO: Number = Number {
+        given: true,
+        size: 0,
+        signed: Hundredths(0),
+    };
+}
+
+pub(crate) fn number_of(f: Field) -> Number
+    ensures { λ r. ⌜ r .given ≡ isGiven f ⌝ }
+    ensures { λ r. ⌜ r .size ≡ sizeOf f ⌝ }
+    ensures { λ r. ⌜ (SFits w16 (valueOf f) → r .signed .0 ≡ valueOf f) ⌝ }
 {
     match f {
-        Field::Plus(n) => n,
-        Field::Minus(n) => n,
-        Field::Nothing => 0,
-        Field::At => 0,
-        Field::Bad => 0,
+        Field::Nothing => return Number::NONE,
+        Field::At => return Number::ZERO,
+        Field::Bad => return Number::ZERO,
+        Field::Plus(n) => return Number {
+            given: true,
+            size: n,
+            signed: signed::positive(n),
+        },
+        Field::Minus(n) => return Number {
+            given: true,
+            size: n,
+            signed: signed::negative(n),
+        },
     }
 }
 
-fn is_given(f: Field) -> bool
-    ensures { λ r. ⌜ r ≡ isGiven f ⌝ }
-{
-    match f {
-        Field::Nothing => false,
-        Field::Plus(_) => true,
-        Field::Minus(_) => true,
-        Field::At => true,
-        Field::Bad => true,
-    }
-}
-
-fn hundredths_of(f: Field) -> Hundredths
-    ensures { λ r. ⌜ (SFits w16 (valueOf f) → r .0 ≡ valueOf f) ⌝ }
-{
-    match f {
-        Field::Plus(n) => signed::positive(n),
-        Field::Minus(n) => signed::negative(n),
-        Field::Nothing => Hundredths(0),
-        Field::At => Hundredths(0),
-        Field::Bad => Hundredths(0),
-    }
-}
-
-fn tenths_of(f: Field) -> Tenths
-    ensures { λ r. ⌜ (SFits w8 (valueOf f) → r .0 ≡ valueOf f) ⌝ }
-{
-    signed::as_tenths(hundredths_of(f))
-}
-
-fn as_double(n: u64) -> u32
+pub(crate) fn as_double(n: u64) -> u32
     ensures { λ r. ⌜ (n < 4294967296 → r ≡ n) ⌝ }
 {
     if n < 4294967296 {
@@ -84,18 +83,11 @@ fn as_byte(n: u64) -> u8
     0
 }
 
-// The word at place `i` of a line.
+// The number at place `i` of a line.
 impl Fields {
-    pub(crate) fn given(self, i: usize) -> bool {
-        is_given(self.at(i))
-    }
-
     pub(crate) fn quad(self, i: usize) -> u64 {
-        size_of(self.at(i))
-    }
-
-    pub(crate) fn double(self, i: usize) -> u32 {
-        as_double(self.quad(i))
+        let n = self.at(i);
+        n.size
     }
 
     pub(crate) fn word(self, i: usize) -> u16 {
@@ -106,42 +98,39 @@ impl Fields {
         as_byte(self.quad(i))
     }
 
-    pub(crate) fn flag(self, i: usize) -> bool {
-        self.quad(i) == 1
-    }
-
     pub(crate) fn hundredths(self, i: usize) -> Hundredths {
-        hundredths_of(self.at(i))
-    }
-
-    pub(crate) fn tenths(self, i: usize) -> Tenths {
-        tenths_of(self.at(i))
+        let n = self.at(i);
+        n.signed
     }
 
     pub(crate) fn temperature(self, i: usize) -> Temperature {
-        if self.given(i) {
+        let n = self.at(i);
+        if n.given {
             return Temperature::Reading(self.hundredths(i));
         }
         Temperature::NoReading
     }
 
     pub(crate) fn amount(self, i: usize) -> Amount {
-        if self.given(i) {
+        let n = self.at(i);
+        if n.given {
             return Amount::Moved(self.hundredths(i));
         }
         Amount::NoAmount
     }
 
     pub(crate) fn second(self, i: usize) -> Second {
-        if self.given(i) {
-            return Second::At(self.double(i));
+        let n = self.at(i);
+        if n.given {
+            return Second::At(as_double(n.size));
         }
         Second::NoSecond
     }
 
     pub(crate) fn moment(self, i: usize) -> Moment {
-        if self.given(i) {
-            return Moment::Ms(self.quad(i));
+        let n = self.at(i);
+        if n.given {
+            return Moment::Ms(n.size);
         }
         Moment::Never
     }

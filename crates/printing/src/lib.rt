@@ -166,13 +166,10 @@ fn record(page: &mut Page, at: usize, r: Controller) -> usize
     requires { ⌜ Room at 704 ⌝ }
     ensures { λ r. ⌜ Within at 704 r ⌝ }
 {
-    let s = r.attrs;
-    let a = attrs(page, at, s);
+    let a = attrs(page, at, r.attrs);
     let a = number(page, a, text::PENDING, r.pending as u64);
-    let e = r.events;
-    let a = event_state(page, a, e);
-    let c = r.change;
-    change(page, a, c)
+    let a = event_state(page, a, r.events);
+    change(page, a, r.change)
 }
 
 // The answer of a call or an opening, without its newline.
@@ -181,12 +178,9 @@ pub fn answer(page: &mut Page, at: usize, a: Answer) -> usize
     ensures { λ r. ⌜ Within at 2208 r ⌝ }
 {
     let b = number(page, at, text::NONE, a.number as u64);
-    let r = a.rec;
-    let b = record(page, b, r);
+    let b = record(page, b, a.rec);
     let o = a.order;
     let b = order(page, b, o);
-    let n = a.notices;
-    let b = lists::notices(page, b, n);
-    let e = a.events;
-    lists::events(page, b, e)
+    let b = notice_lists::notices(page, b, a.notices);
+    event_lists::events(page, b, a.events)
 }

@@ -1,58 +1,52 @@
 // The labels of the console's lines.
-ghost use Prim.Native.Nat.{_<_};
+ghost use Prim.Native.Nat.{_≤_};
 
 // A label has at most so many bytes.
 pub const LONGEST: usize = 10;
 
-const COUNT: usize = 33;
-
 // Each label, filled up with tildes, of which none has any.
-const LABELS: [[u8; LONGEST]; COUNT] = [
-    *b"~~~~~~~~~~",
-    *b" h=~~~~~~~",
-    *b" c=~~~~~~~",
-    *b" minh=~~~~",
-    *b" maxh=~~~~",
-    *b" minc=~~~~",
-    *b" maxc=~~~~",
-    *b" mode=~~~~",
-    *b" dirty=~~~",
-    *b" pend=~~~~",
-    *b" shadow=~~",
-    *b" last=~~~~",
-    *b" src=~~~~~",
-    *b" amt=~~~~~",
-    *b" ts=~~~~~~",
-    *b" att=~~~~~",
-    *b" armed=~~~",
-    *b" order=~~~",
-    *b" notices=~",
-    *b" events=~~",
-    *b" deadline=",
-    *b"0(~~~~~~~~",
-    *b"1(~~~~~~~~",
-    *b"3(~~~~~~~~",
-    *b"4(~~~~~~~~",
-    *b"5(~~~~~~~~",
-    *b")~~~~~~~~~",
-    *b",~~~~~~~~~",
-    *b";~~~~~~~~~",
-    *b"/~~~~~~~~~",
-    *b"ok\n~~~~~~~",
-    *b"error ~~~~",
-    *b"\n~~~~~~~~~",
-];
+pub const LABELS: [u8; 330] = *b"\
+    ~~~~~~~~~~\
+    \x20h=~~~~~~~\
+    \x20c=~~~~~~~\
+    \x20minh=~~~~\
+    \x20maxh=~~~~\
+    \x20minc=~~~~\
+    \x20maxc=~~~~\
+    \x20mode=~~~~\
+    \x20dirty=~~~\
+    \x20pend=~~~~\
+    \x20shadow=~~\
+    \x20last=~~~~\
+    \x20src=~~~~~\
+    \x20amt=~~~~~\
+    \x20ts=~~~~~~\
+    \x20att=~~~~~\
+    \x20armed=~~~\
+    \x20order=~~~\
+    \x20notices=~\
+    \x20events=~~\
+    \x20deadline=\
+    0(~~~~~~~~\
+    1(~~~~~~~~\
+    3(~~~~~~~~\
+    4(~~~~~~~~\
+    5(~~~~~~~~\
+    )~~~~~~~~~\
+    ,~~~~~~~~~\
+    ;~~~~~~~~~\
+    /~~~~~~~~~\
+    ok\n~~~~~~~\
+    error ~~~~\
+    \n~~~~~~~~~\
+";
 
-// A place in the table: the empty label's where there is none.
-fn known(i: usize) -> usize
-    ensures { λ r. ⌜ r < 33 ⌝ }
+// Where a label begins: the empty one, where there is no such label.
+pub(crate) fn start(i: usize) -> usize
+    ensures { λ r. ⌜ r ≤ 320 ⌝ }
 {
-    if i < COUNT {
-        return i;
+    if i < 33 {
+        return i * LONGEST;
     }
     0
-}
-
-pub(crate) fn row(i: usize) -> [u8; LONGEST] {
-    LABELS[known(i)]
 }

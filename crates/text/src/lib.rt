@@ -88,35 +88,22 @@ pub const ERROR: usize = 31;
 
 pub const NEWLINE: usize = 32;
 
-fn paste(out: &mut [u8], at: usize, s: &[u8])
+fn text(out: &mut [u8], at: usize, s: &[u8]) -> usize
     requires { ⌜ at + length (now s) ≤ length (now out) ⌝ }
-{
-    bytes::copy(s, &mut out[at..]);
-}
-
-fn text(page: &mut Page, at: usize, s: &[u8]) -> usize
-    requires { ⌜ Room at (length (now s)) ⌝ }
     ensures { λ r. ⌜ r ≡ at + length (now (s .entry)) ⌝ }
 {
-    paste(page, at, s);
+    bytes::copy(s, &mut out[at..]);
     at + s.len()
-}
-
-// A row of the table, up to its tildes.
-fn trimmed(page: &mut Page, at: usize, row: &[u8]) -> usize
-    requires { ⌜ Room at (length (now row)) ⌝ }
-    ensures { λ r. ⌜ Within at (length (now (row .entry))) r ⌝ }
-{
-    let end = bytes::scan::find(row, 0, row.len(), b'~');
-    text(page, at, &row[0..end])
 }
 
 fn label(page: &mut Page, at: usize, i: usize) -> usize
     requires { ⌜ Room at 10 ⌝ }
     ensures { λ r. ⌜ Within at 10 r ⌝ }
 {
-    let row = labels::row(i);
-    trimmed(page, at, &row)
+    let table = labels::LABELS;
+    let from = labels::start(i);
+    let end = bytes::scan::find(&table, from, from + labels::LONGEST, b'~');
+    text(page, at, &table[from..end])
 }
 
 fn decimal(page: &mut Page, at: usize, n: u64) -> usize

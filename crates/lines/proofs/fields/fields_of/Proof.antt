@@ -8,10 +8,10 @@ use Rattle.lines.proofs.fields.fields_of.Statement.{statement}
 use Rattle.lines.proofs.fields.fields_of.Tie as tie
 
 abbrev Inv-loop : tie.InvT-loop
-Inv-loop line from row f₀ at₀ f at = Unit {0}
+Inv-loop line at₀ f₀ at f = Unit {0}
 
 abbrev μ-loop : tie.MeasureT-loop
-μ-loop line from row f₀ at₀ f at = length line - at
+μ-loop line at₀ f₀ at f = length line - at
 
 pub fields-of-spec : {M : Type 1} → statement M
 fields-of-spec =
@@ -19,6 +19,10 @@ fields-of-spec =
     (tie.spec
     Inv-loop
     μ-loop
+    (λ c κs. search needs)
+    (λ c. omega arith)
+    (λ c. omega arith)
+    (λ c. omega arith)
     (λ c κs. tt)
     (λ c. tt)
     (λ c. omega arith)
@@ -28,9 +32,7 @@ fields-of-spec =
     (λ c. omega arith)
     (λ c κs. tt)
     (λ c κs. tt)
-    (λ c κs. tt)
     (λ c. omega arith)
     (λ c. tt)
-    (λ c κs. tt)
     (λ c κs. tt)
     (λ c. tt))

@@ -1,16 +1,16 @@
--- `lists::notices` meets its contract. The invariant: each item took at most 32 bytes. The measure is the items that are left.
+-- `notice_lists::notices` meets its contract. The invariant: each item took at most 32 bytes. The measure is the items that are left.
 -- Assumes nothing.
 use Prim.Native.Nat.{_+_, _*_, _-_, _≤_}
 use native.Mathlib.Omega.{arith}
 use borrow.Author.Needs.{needs}
-use Rattle.lists.proofs.notices.Statement.{statement}
-use Rattle.lists.proofs.notices.Tie as tie
+use Rattle.notice_lists.proofs.notices.Statement.{statement}
+use Rattle.notice_lists.proofs.notices.Tie as tie
 
 abbrev Inv-loop : tie.InvT-loop
-Inv-loop page₀ at n count a₀ i₀ page a i = (i ≤ count) × (a ≤ at + 32 * i)
+Inv-loop page₀ at n a₀ name₀ i₀ page a name i = (i ≤ 13) × (a ≤ at + 32 * i)
 
 abbrev μ-loop : tie.MeasureT-loop
-μ-loop page₀ at n count a₀ i₀ page a i = count - i
+μ-loop page₀ at n a₀ name₀ i₀ page a name i = 13 - i
 
 pub notices-spec : {M : Type 1} → statement M
 notices-spec =
@@ -18,13 +18,12 @@ notices-spec =
     (tie.spec
     Inv-loop
     μ-loop
-    (λ c κs. tt)
     (λ c κs. omega arith)
     (λ c. omega arith)
     (λ c. omega arith)
+    (λ c. omega arith)
     (λ c. search needs)
     (λ c. search needs)
-    (λ c κs. tt)
     (λ c. search needs)
     (λ c κs. omega arith)
     (λ c. omega arith)

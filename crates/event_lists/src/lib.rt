@@ -1,53 +1,11 @@
-// The notices and the events of an answer.
-ghost use Prim.Native.Nat.{_≤_};
+// The events of an answer.
 ghost use Rattle.text.specs.Pages.{Room, Within};
 use records::Event;
 use records::Events;
-use records::Notices;
 use records::Temperature;
 use text::Page;
 use text::Value;
 use units::Hundredths;
-
-fn at_most(n: usize, most: usize) -> usize
-    ensures { λ r. ⌜ r ≤ most ⌝ }
-{
-    if n < most {
-        return n;
-    }
-    most
-}
-
-// The list's name stands before its first item, and a mark before each other one.
-fn lead(i: usize, name: usize, mark: usize) -> usize {
-    if i == 0 {
-        return name;
-    }
-    mark
-}
-
-pub fn notices(page: &mut Page, at: usize, n: Notices) -> usize
-    requires { ⌜ Room at 416 ⌝ }
-    ensures { λ r. ⌜ Within at 416 r ⌝ }
-{
-    let count = at_most(n.len, 13);
-    if count == 0 {
-        return text::field(page, at, text::NOTICES, Value::Absent);
-    }
-    let mut a = at;
-    let mut i: usize = 0;
-    while i < count {
-        let code = n.codes[i];
-        a = text::field(
-            page,
-            a,
-            lead(i, text::NOTICES, text::COMMA),
-            Value::Code(code as u64),
-        );
-        i += 1;
-    }
-    a
-}
 
 fn value_of(t: Temperature) -> Value {
     match t {
@@ -130,20 +88,25 @@ fn listed(page: &mut Page, at: usize, name: usize, e: Event) -> usize
     event(page, a, e)
 }
 
+// The list's name stands before its first item, and a semicolon before each other one.
 pub fn events(page: &mut Page, at: usize, n: Events) -> usize
     requires { ⌜ Room at 960 ⌝ }
     ensures { λ r. ⌜ Within at 960 r ⌝ }
 {
-    let count = at_most(n.len, 6);
-    if count == 0 {
+    if n.len == 0 {
         return text::field(page, at, text::EVENTS, Value::Absent);
     }
     let mut a = at;
+    let mut name = text::EVENTS;
     let mut i: usize = 0;
-    while i < count {
+    while i < 6 {
+        if n.len <= i {
+            return a;
+        }
         let s = n.slots[i];
         let e = s.event;
-        a = listed(page, a, lead(i, text::EVENTS, text::SEMICOLON), e);
+        a = listed(page, a, name, e);
+        name = text::SEMICOLON;
         i += 1;
     }
     a
