@@ -46,13 +46,6 @@ fn moment(m: Moment) -> Value {
     }
 }
 
-fn mark(t: bool) -> Value {
-    if t {
-        return Value::Number(1);
-    }
-    Value::Number(0)
-}
-
 fn number(page: &mut Page, at: usize, name: usize, n: u64) -> usize
     requires { ⌜ Room at 32 ⌝ }
     ensures { λ r. ⌜ Within at 32 r ⌝ }
@@ -65,6 +58,15 @@ fn degrees(page: &mut Page, at: usize, name: usize, v: Hundredths) -> usize
     ensures { λ r. ⌜ Within at 32 r ⌝ }
 {
     text::field(page, at, name, Value::Degrees(v))
+}
+
+// Two setpoints, the second after a slash.
+fn setpoints(page: &mut Page, at: usize, name: usize, h: Hundredths, c: Hundredths) -> usize
+    requires { ⌜ Room at 64 ⌝ }
+    ensures { λ r. ⌜ Within at 64 r ⌝ }
+{
+    let a = degrees(page, at, name, h);
+    degrees(page, a, text::SLASH, c)
 }
 
 fn settings(page: &mut Page, at: usize, s: Settings) -> usize
@@ -85,7 +87,7 @@ fn attrs(page: &mut Page, at: usize, s: Attrs) -> usize
     ensures { λ r. ⌜ Within at 256 r ⌝ }
 {
     let a = settings(page, at, s.settings);
-    text::field(page, a, text::DIRTY, mark(s.dirty))
+    number(page, a, text::DIRTY, s.dirty as u64)
 }
 
 fn snapshot(page: &mut Page, at: usize, s: Snapshot) -> usize
@@ -94,8 +96,7 @@ fn snapshot(page: &mut Page, at: usize, s: Snapshot) -> usize
 {
     let t = s.temperature;
     let a = text::field(page, at, text::SHADOW, temperature(t));
-    let a = degrees(page, a, text::SLASH, s.heating);
-    let a = degrees(page, a, text::SLASH, s.cooling);
+    let a = setpoints(page, a, text::SLASH, s.heating, s.cooling);
     let a = number(page, a, text::SLASH, s.mode as u64);
     let a = number(page, a, text::SLASH, s.relays as u64);
     number(page, a, text::SLASH, s.runningmode as u64)
@@ -127,10 +128,7 @@ fn attributed(page: &mut Page, at: usize, p: Attributed) -> usize
 {
     match p {
         Attributed::Unclaimed => text::field(page, at, text::ATTRIBUTED, Value::Absent),
-        Attributed::Claimed(h, c) => {
-            let a = degrees(page, at, text::ATTRIBUTED, h);
-            degrees(page, a, text::SLASH, c)
-        }
+        Attributed::Claimed(h, c) => setpoints(page, at, text::ATTRIBUTED, h, c),
     }
 }
 
@@ -156,8 +154,7 @@ fn order(page: &mut Page, at: usize, o: Order) -> usize
         Order::NoOrder => text::field(page, at, text::ORDER, Value::Absent),
         Order::Apply(mode, h, c) => {
             let a = number(page, at, text::ORDER, mode as u64);
-            let a = degrees(page, a, text::SLASH, h);
-            degrees(page, a, text::SLASH, c)
+            setpoints(page, a, text::SLASH, h, c)
         }
     }
 }
