@@ -15,7 +15,7 @@ fn with_bits(o: Answer, bits: u16) -> Answer
     ensures { λ q. ⌜ q ≡ withBits o bits ⌝ }
 {
     let mut p = o;
-    p.rec = setpoint_messages::raise_bits(o.rec, bits);
+    p.rec = pending::raise_bits(o.rec, bits);
     p
 }
 

@@ -20,15 +20,9 @@ pub fn out_of_band_message(cfg: Config, r: Controller, m: OutOfBandMessage) -> A
         return orders::quiet_answer(28, r);
     }
     match m {
-        OutOfBandMessage::LocalTemperature => setpoint_messages::plain_message(
-            r,
-            PENDING_LOCAL_TEMPERATURE,
-        ),
-        OutOfBandMessage::RunningState => setpoint_messages::plain_message(
-            r,
-            PENDING_RUNNING_STATE,
-        ),
-        OutOfBandMessage::Update => setpoint_messages::plain_message(r, PENDING_UPDATE),
+        OutOfBandMessage::LocalTemperature => pending::plain_message(r, PENDING_LOCAL_TEMPERATURE),
+        OutOfBandMessage::RunningState => pending::plain_message(r, PENDING_RUNNING_STATE),
+        OutOfBandMessage::Update => pending::plain_message(r, PENDING_UPDATE),
         OutOfBandMessage::OccupiedHeatingSetpoint(v) => setpoint_messages::heating_message(
             cfg,
             r,

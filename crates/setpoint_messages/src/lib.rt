@@ -1,6 +1,6 @@
-// model/specs/Messages: messages that store a setpoint, a mode or nothing, and the pending bits that each sets.
+// model/specs/Messages: messages that store a setpoint or a mode.
 ghost use mathlib.Core.Path.{_≡_};
-ghost use Rattle.model.specs.Answers.{answer, quiet};
+ghost use Rattle.model.specs.Answers.{answer};
 ghost use Rattle.model.specs.Messages as spec;
 use records::Answer;
 use records::Config;
@@ -13,24 +13,6 @@ const PENDING_OCCUPIED_COOLING_SETPOINT: u16 = 0x004;
 
 const PENDING_SYSTEM_MODE: u16 = 0x008;
 
-const PENDING_EVENT_SWEEP: u16 = 0x200;
-
-// Every accepted message asks for a sweep too.
-pub fn raise_bits(r: Controller, bits: u16) -> Controller
-    ensures { λ q. ⌜ q ≡ spec.raiseBits r bits ⌝ }
-{
-    let mut q = r;
-    q.pending = r.pending | (bits | PENDING_EVENT_SWEEP);
-    q
-}
-
-// A message that stores nothing.
-pub fn plain_message(r: Controller, bits: u16) -> Answer
-    ensures { λ q. ⌜ q ≡ answer (quiet 0 (spec.raiseBits r bits)) ⌝ }
-{
-    orders::quiet_answer(0, raise_bits(r, bits))
-}
-
 pub fn heating_message(cfg: Config, r: Controller, v: Hundredths) -> Answer
     ensures { λ q. ⌜ q ≡ answer (spec.heatingMessage cfg r v) ⌝ }
 {
@@ -39,7 +21,7 @@ pub fn heating_message(cfg: Config, r: Controller, v: Hundredths) -> Answer
     s.heating = w;
     let mut q = r;
     q.attrs = attrs::update_attrs(r.attrs, s);
-    plain_message(q, PENDING_OCCUPIED_HEATING_SETPOINT)
+    pending::plain_message(q, PENDING_OCCUPIED_HEATING_SETPOINT)
 }
 
 pub fn cooling_message(cfg: Config, r: Controller, v: Hundredths) -> Answer
@@ -50,7 +32,7 @@ pub fn cooling_message(cfg: Config, r: Controller, v: Hundredths) -> Answer
     s.cooling = w;
     let mut q = r;
     q.attrs = attrs::update_attrs(r.attrs, s);
-    plain_message(q, PENDING_OCCUPIED_COOLING_SETPOINT)
+    pending::plain_message(q, PENDING_OCCUPIED_COOLING_SETPOINT)
 }
 
 pub fn mode_message(cfg: Config, r: Controller, v: u8) -> Answer
@@ -63,5 +45,5 @@ pub fn mode_message(cfg: Config, r: Controller, v: u8) -> Answer
     s.mode = v;
     let mut q = r;
     q.attrs = attrs::update_attrs(r.attrs, s);
-    plain_message(q, PENDING_SYSTEM_MODE)
+    pending::plain_message(q, PENDING_SYSTEM_MODE)
 }

@@ -1,4 +1,3 @@
-use borrow.Author.Needs.{needs}
 use Rattle.model.specs.Messages.{limitsTaken}
 use Rattle.limit_messages.proofs.take_limits.Statement.{statement}
 use Rattle.limit_messages.proofs.take_limits.Tie as tie
@@ -10,11 +9,11 @@ take-limits-spec =
     (tie.spec
     (λ c κs. tt)
     (λ c κs. tt)
-    (λ c. search needs)
-    (λ c. search needs)
-    (λ c. search needs)
-    (λ c. search needs)
-    (λ c. search needs)
-    (λ c. search needs)
+    (λ c κs. tt)
+    (λ c κs. tt)
+    (λ c κs. tt)
+    (λ c κs. tt)
+    (λ c κs. tt)
+    (λ c κs. tt)
     (λ c κs. tt)
     (λ c. simp (c .update-attrs .ensures, c .before .clamp4 .ensures, c .before .before .widen4 .ensures, c .before .before .before .clamp3 .ensures, c .before .before .before .before .widen3 .ensures, c .before .before .before .before .before .clamp2 .ensures, c .before .before .before .before .before .before .widen2 .ensures, c .before .before .before .before .before .before .before .clamp .ensures, c .before .before .before .before .before .before .before .before .widen .ensures)))

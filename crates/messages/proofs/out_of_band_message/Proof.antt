@@ -1,5 +1,4 @@
 use mathlib.Core.Path.{_∙_, sym, ap}
-use borrow.Author.Needs.{needs}
 use mathlib.Core.Bool.{not}
 use Rattle.model.specs.Messages.{outOfBandMessage}
 use Rattle.model.specs.Refusals.{unless}
@@ -14,11 +13,11 @@ out-of-band-message-spec =
     (λ c κs. tt)
     (λ c κs. tt)
     (λ c. simp (c .quiet-answer .ensures, ap not (sym (c .before .before .is-sound .ensures)) ∙ c .before .if1 .taken))
-    (λ c. search needs)
+    (λ c. c .match .keys1)
     (λ c κs. tt)
-    (λ c. search needs)
+    (λ c. c .match .keys2)
     (λ c κs. tt)
-    (λ c. search needs)
+    (λ c. c .match .keys3)
     (λ c κs. tt)
     (λ c. c .match .keys4)
     (λ c κs. tt)
