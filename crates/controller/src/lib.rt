@@ -24,25 +24,25 @@ pub fn step(cfg: Config, rec: Controller, d: Readings, call: Call) -> Answer
             d,
             v,
         ),
-        Call::WriteMinHeatSetpointLimit(v) => limit_writes::write_min_heat_setpoint_limit(
+        Call::WriteMinHeatSetpointLimit(v) => heat_limit_writes::write_min_heat_setpoint_limit(
             cfg,
             rec,
             d,
             v,
         ),
-        Call::WriteMaxHeatSetpointLimit(v) => limit_writes::write_max_heat_setpoint_limit(
+        Call::WriteMaxHeatSetpointLimit(v) => heat_limit_writes::write_max_heat_setpoint_limit(
             cfg,
             rec,
             d,
             v,
         ),
-        Call::WriteMinCoolSetpointLimit(v) => limit_writes::write_min_cool_setpoint_limit(
+        Call::WriteMinCoolSetpointLimit(v) => cool_limit_writes::write_min_cool_setpoint_limit(
             cfg,
             rec,
             d,
             v,
         ),
-        Call::WriteMaxCoolSetpointLimit(v) => limit_writes::write_max_cool_setpoint_limit(
+        Call::WriteMaxCoolSetpointLimit(v) => cool_limit_writes::write_max_cool_setpoint_limit(
             cfg,
             rec,
             d,

@@ -1,4 +1,3 @@
-use borrow.Author.Needs.{needs}
 use Rattle.model.specs.Step.{step}
 use Rattle.controller.proofs.step.Statement.{statement}
 use Rattle.controller.proofs.step.Tie as tie
@@ -26,17 +25,17 @@ step-spec =
     (λ c κs. tt)
     (λ c. c .match .keys9)
     (λ c κs. tt)
-    (λ c. search needs)
+    (λ c. c .match .keys10)
     (λ c κs. tt)
     (λ c. c .match .keys11)
     (λ c κs. tt)
-    (λ c. search needs)
+    (λ c. c .match .keys12)
     (λ c κs. tt)
-    (λ c. search needs)
+    (λ c. c .match .keys13)
     (λ c κs. tt)
-    (λ c. search needs)
+    (λ c. c .match .keys14)
     (λ c κs. tt)
-    (λ c. search needs)
+    (λ c. c .match .keys15)
     (λ c κs. tt)
     (λ c. simp (c .write-occupied-heating-setpoint .ensures, c .before .before .call .given .1))
     (λ c. simp (c .write-occupied-cooling-setpoint .ensures, c .before .before .call2 .given .1))

@@ -1,16 +1,17 @@
 use mathlib.Core.Path.{_∙_, sym, ap}
 use mathlib.Core.Bool.{not}
-use Rattle.model.proofs.Packing.{push-all-append}
 use borrow.Author.Tests.{lt-ltb, le-ltb}
-use Rattle.stages.specs.Stages.{ordered}
-use Rattle.model.specs.Answers.{packed, packedEvents, emitAll}
+use Rattle.model.specs.Attribution.{armedClock}
+use Rattle.stages.specs.Stages.{staged}
+use Rattle.stages.proofs.Ended.{ended}
+use Rattle.records.specs.declared.Controller.{Controller}
 use Rattle.model.specs.Refusals.{unless}
-use Rattle.model.specs.Writes.{raiseLowerSetpoint, applied}
+use Rattle.model.specs.Writes.{raiseLowerSetpoint, raiseSides}
 use Rattle.raise_lower.proofs.raise_lower_setpoint.Statement.{statement}
 use Rattle.raise_lower.proofs.raise_lower_setpoint.Tie as tie
 
 pub raise-lower-setpoint-spec : {M : Type 1} → statement M
-unfolding raiseLowerSetpoint unless ordered applied packed packedEvents emitAll
+unfolding raiseLowerSetpoint unless
 raise-lower-setpoint-spec =
     tie.close
     (tie.spec
@@ -26,4 +27,10 @@ raise-lower-setpoint-spec =
     (λ c κs. tt)
     (λ c κs. tt)
     (λ c κs. tt)
-    (λ c. simp (push-all-append, c .apply .ensures, c .before .raise-sides .ensures, c .before .before .none .ensures, sym (c .before .before .before .before .names-absent-side .ensures) ∙ c .before .before .before .if3 .left, le-ltb _ _ (c .before .before .before .before .before .if2 .left), c .before .before .before .before .before .before .arm-clock .ensures, ap not (sym (c .before .before .before .before .before .before .before .before .is-sound .ensures)) ∙ c .before .before .before .before .before .before .before .if1 .left)))
+    (λ c.
+    let b = c .before .before .before .before .before .before in
+    let a = b .before .before .before .args in
+    simp (sym (c .before .before .before .before .names-absent-side .ensures) ∙ c .before .before .before .if3 .left, le-ltb _ _ (c .before .before .before .before .before .if2 .left), ap not (sym (b .before .before .is-sound .ensures)) ∙ b .before .if1 .left)
+    (ended (a .cfg) (a .d) (raiseSides (a .cfg) (a .d) (a .mode) (a .amount) (armedClock (a .cfg) (a .d) (a .r))) (c .apply .ensures)
+    (c .before .raise-sides .ensures ∙ ap (λ (r : Controller). staged (c .before .before .none .result) (raiseSides (a .cfg) (a .d) (a .mode) (a .amount) r)) (b .arm-clock .ensures))
+    (c .before .before .none .ensures))))

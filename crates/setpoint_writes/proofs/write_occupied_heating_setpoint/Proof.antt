@@ -1,28 +1,38 @@
 use mathlib.Core.Path.{_∙_, sym, ap}
 use mathlib.Core.Bool.{not}
-use Rattle.model.proofs.Packing.{push-all-append}
-use Rattle.stages.specs.Stages.{ordered}
-use Rattle.model.specs.Answers.{packed, packedEvents, emitAll}
-use Rattle.model.specs.Refusals.{unless}
-use Rattle.model.specs.Writes.{writeOccupiedHeatingSetpoint, applied}
+use Rattle.model.specs.Attribution.{external}
+use Rattle.model.specs.Writes.{writeOccupiedHeatingSetpoint, storeHeatingSetpoint}
+use Rattle.sound.proofs.Rows.{refused, passed, done}
+use Rattle.stages.proofs.Ended.{ended}
 use Rattle.setpoint_writes.proofs.write_occupied_heating_setpoint.Statement.{statement}
 use Rattle.setpoint_writes.proofs.write_occupied_heating_setpoint.Tie as tie
 
 pub write-occupied-heating-setpoint-spec : {M : Type 1} → statement M
-unfolding writeOccupiedHeatingSetpoint unless ordered applied packed packedEvents emitAll
+unfolding writeOccupiedHeatingSetpoint
 write-occupied-heating-setpoint-spec =
     tie.close
     (tie.spec
     (λ c κs. tt)
     (λ c κs. tt)
-    (λ c. simp (c .quiet-answer .ensures, ap not (sym (c .before .before .is-sound .ensures)) ∙ c .before .if1 .taken))
+    (λ c. refused _ _ (c .quiet-answer .ensures) (ap not (sym (c .before .before .is-sound .ensures)) ∙ c .before .if1 .taken))
     (λ c κs. tt)
     (λ c κs. tt)
-    (λ c. simp (c .quiet-answer2 .ensures, ap not (sym (c .before .before .serves .ensures)) ∙ c .before .if2 .taken, ap not (sym (c .before .before .before .before .is-sound .ensures)) ∙ c .before .before .before .if1 .left))
+    (λ c.
+    passed _ _ _ _ (ap not (sym (c .before .before .before .before .is-sound .ensures)) ∙ c .before .before .before .if1 .left)
+    (refused _ _ (c .quiet-answer2 .ensures) (ap not (sym (c .before .before .serves .ensures)) ∙ c .before .if2 .taken)))
     (λ c κs. tt)
     (λ c κs. tt)
-    (λ c. simp (c .quiet-answer3 .ensures, ap not (sym (c .before .before .in-heat-limits .ensures)) ∙ c .before .if3 .taken, ap not (sym (c .before .before .before .before .serves .ensures)) ∙ c .before .before .before .if2 .left, ap not (sym (c .before .before .before .before .before .before .is-sound .ensures)) ∙ c .before .before .before .before .before .if1 .left))
+    (λ c.
+    passed _ _ _ _ (ap not (sym (c .before .before .before .before .before .before .is-sound .ensures)) ∙ c .before .before .before .before .before .if1 .left)
+    (passed _ _ _ _ (ap not (sym (c .before .before .before .before .serves .ensures)) ∙ c .before .before .before .if2 .left)
+    (refused _ _ (c .quiet-answer3 .ensures) (ap not (sym (c .before .before .in-heat-limits .ensures)) ∙ c .before .if3 .taken))))
     (λ c κs. tt)
     (λ c κs. tt)
     (λ c κs. tt)
-    (λ c. simp (push-all-append, c .apply .ensures, c .before .store-heating-setpoint .ensures, c .before .before .none .ensures, ap not (sym (c .before .before .before .before .in-heat-limits .ensures)) ∙ c .before .before .before .if3 .left, ap not (sym (c .before .before .before .before .before .before .serves .ensures)) ∙ c .before .before .before .before .before .if2 .left, ap not (sym (c .before .before .before .before .before .before .before .before .is-sound .ensures)) ∙ c .before .before .before .before .before .before .before .if1 .left)))
+    (λ c.
+    let b = c .before .before .before .before in
+    let a = b .before .before .before .before .before .args in
+    passed _ _ _ _ (ap not (sym (b .before .before .before .before .is-sound .ensures)) ∙ b .before .before .before .if1 .left)
+    (passed _ _ _ _ (ap not (sym (b .before .before .serves .ensures)) ∙ b .before .if2 .left)
+    (passed _ _ _ _ (ap not (sym (b .in-heat-limits .ensures)) ∙ c .before .before .before .if3 .left)
+    (done _ _ (ended (a .cfg) (a .d) (storeHeatingSetpoint (a .cfg) (a .d) external (a .v) (a .r)) (c .apply .ensures) (c .before .store-heating-setpoint .ensures) (c .before .before .none .ensures)))))))

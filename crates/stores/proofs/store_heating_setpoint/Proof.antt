@@ -1,6 +1,12 @@
-use borrow.Author.Needs.{needs}
-use Rattle.model.proofs.Packing.{push-all-append}
-use Rattle.model.specs.Writes.{storeHeatingSetpoint}
+use mathlib.Core.Path.{_∙_, ap, ap₂}
+use mathlib.Core.List.{_++_}
+use Rattle.units.specs.Units.{equal}
+use Rattle.units.specs.declared.Hundredths.{Hundredths}
+use Rattle.records.specs.Records.{updated, setHeating, setCooling}
+use Rattle.records.specs.declared.Attrs.{Attrs}
+use Rattle.model.specs.Served.{noticed}
+use Rattle.model.specs.Writes.{storeHeatingSetpoint, sourceNotices}
+use Rattle.stores.proofs.Stored.{stored}
 use Rattle.stores.proofs.store_heating_setpoint.Statement.{statement}
 use Rattle.stores.proofs.store_heating_setpoint.Tie as tie
 
@@ -11,11 +17,23 @@ store-heating-setpoint-spec =
     (tie.spec
     (λ c κs. tt)
     (λ c κs. tt)
-    (λ c. search needs)
-    (λ c κs. tt)
-    (λ c. search needs)
     (λ c κs. tt)
     (λ c κs. tt)
     (λ c κs. tt)
     (λ c κs. tt)
-    (λ c. simp (push-all-append, c .notify-if .ensures, c .before .notify-change .ensures, c .before .before .claim-setpoints .ensures, c .before .before .before .record-if .ensures, c .before .before .before .before .update-attrs2 .ensures, c .before .before .before .before .before .update-attrs .ensures, c .before .before .before .before .before .before .before .same2 .ensures, c .before .before .before .before .before .before .before .before .cooling-beside .ensures, c .before .before .before .before .before .before .before .before .before .same .ensures)))
+    (λ c κs. tt)
+    (λ c κs. tt)
+    (λ c κs. tt)
+    (λ c.
+    let b = c .before .before .before .before in
+    let g = b .before .before .before .before in
+    let a = g .before .before .before .before .args in
+    let s = a .r .attrs .settings in
+    stored (a .cfg) (a .r) (a .n) (a .d) (a .source) (s .heating) (a .v) (noticed (a .cfg) 0x12 ++ sourceNotices (a .cfg)) (noticed (a .cfg) 0x11)
+    (c .before .before .claim-setpoints .ensures)
+    (b .update-attrs2 .ensures ∙ ap₂ (λ (x : Attrs) (w : Hundredths). updated x (setCooling (setHeating (a .r .attrs) (a .v)) w .settings)) (b .before .update-attrs .ensures) (g .cooling-beside .ensures))
+    (c .before .before .before .record-if .ensures)
+    (g .before .same .ensures)
+    (c .notify-if .ensures)
+    (c .before .notify-change .ensures)
+    (b .before .before .before .same2 .ensures ∙ ap (equal (s .cooling)) (g .cooling-beside .ensures))))
