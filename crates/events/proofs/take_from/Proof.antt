@@ -1,4 +1,3 @@
-use borrow.Author.Needs.{needs}
 use Rattle.model.proofs.Packing.{emit-none}
 use Rattle.model.specs.Answers.{packedEvents}
 use Rattle.events.proofs.take_from.Statement.{statement}
@@ -9,7 +8,7 @@ unfolding packedEvents
 take-from-spec =
     tie.close
     (tie.spec
-    (λ c. search needs)
+    (λ c. c .match .keys1)
     (λ c κs. tt)
     (λ c κs. tt)
     (λ c. c .match .keys2)

@@ -1,4 +1,3 @@
-use borrow.Author.Needs.{needs}
 use Rattle.model.proofs.Packing.{push-none}
 use Rattle.local_changes.proofs.attribute_to.Statement.{statement}
 use Rattle.local_changes.proofs.attribute_to.Tie as tie
@@ -7,9 +6,9 @@ pub attribute-to-spec : {M : Type 1} → statement M
 attribute-to-spec =
     tie.close
     (tie.spec
-    (λ c. search needs)
+    (λ c. c .match .keys1)
     (λ c. c .match .keys2)
-    (λ c. search needs)
+    (λ c. c .match2 .keys1)
     (λ c κs. tt)
     (λ c. c .match2 .keys2)
     (λ c κs. tt)

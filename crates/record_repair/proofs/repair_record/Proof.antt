@@ -1,4 +1,3 @@
-use borrow.Author.Needs.{needs}
 use Rattle.model.specs.Answers.{packed, pushAll, packedEvents, emitAll}
 use Rattle.record_repair.proofs.repair_record.Statement.{statement}
 use Rattle.record_repair.proofs.repair_record.Tie as tie
@@ -12,5 +11,5 @@ repair-record-spec =
     (λ c κs. tt)
     (λ c κs. tt)
     (λ c κs. tt)
-    (λ c. search needs)
+    (λ c κs. tt)
     (λ c. simp (c .none2 .ensures, c .before .none .ensures, c .before .before .order-of .ensures, c .before .before .before .ask-sweep .ensures, c .before .before .before .before .repair .ensures)))

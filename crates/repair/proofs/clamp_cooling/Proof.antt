@@ -1,4 +1,6 @@
 use mathlib.Core.Path.{_∙_, sym}
+use Rattle.records.specs.Records.{setCooling}
+use Rattle.repair.proofs.Stored.{stored}
 use Rattle.model.specs.Repair.{clampCooling}
 use Rattle.repair.proofs.clamp_cooling.Statement.{statement}
 use Rattle.repair.proofs.clamp_cooling.Tie as tie
@@ -12,5 +14,8 @@ clamp-cooling-spec =
     (λ c κs. tt)
     (λ c κs. tt)
     (λ c κs. tt)
-    (λ c. simp (c .update-attrs .ensures, c .before .clamp-cool-setpoint .ensures, c .before .before .widen .ensures, sym (c .before .before .before .before .before .cools .ensures) ∙ c .before .before .before .before .if1 .taken))
+    (λ c.
+    let b = c .before .before .before .before in
+    let a = b .before .before .args in
+    stored (setCooling (a .a)) (a .a) (c .update-attrs .ensures) (simp (c .before .clamp-cool-setpoint .ensures, c .before .before .widen .ensures)) (b .before .cools .ensures) (b .if1 .taken))
     (λ c. simp (sym (c .before .cools .ensures) ∙ c .if1 .left)))

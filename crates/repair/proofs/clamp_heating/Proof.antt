@@ -1,4 +1,6 @@
 use mathlib.Core.Path.{_∙_, sym}
+use Rattle.records.specs.Records.{setHeating}
+use Rattle.repair.proofs.Stored.{stored}
 use Rattle.model.specs.Repair.{clampHeating}
 use Rattle.repair.proofs.clamp_heating.Statement.{statement}
 use Rattle.repair.proofs.clamp_heating.Tie as tie
@@ -12,5 +14,8 @@ clamp-heating-spec =
     (λ c κs. tt)
     (λ c κs. tt)
     (λ c κs. tt)
-    (λ c. simp (c .update-attrs .ensures, c .before .clamp-heat-setpoint .ensures, c .before .before .widen .ensures, sym (c .before .before .before .before .before .heats .ensures) ∙ c .before .before .before .before .if1 .taken))
+    (λ c.
+    let b = c .before .before .before .before in
+    let a = b .before .before .args in
+    stored (setHeating (a .a)) (a .a) (c .update-attrs .ensures) (simp (c .before .clamp-heat-setpoint .ensures, c .before .before .widen .ensures)) (b .before .heats .ensures) (b .if1 .taken))
     (λ c. simp (sym (c .before .heats .ensures) ∙ c .if1 .left)))

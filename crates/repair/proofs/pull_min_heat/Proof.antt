@@ -1,4 +1,6 @@
 use mathlib.Core.Path.{_∙_, sym}
+use Rattle.records.specs.Records.{setMinHeat}
+use Rattle.repair.proofs.Stored.{stored}
 use Rattle.model.specs.Repair.{pullMinHeat}
 use Rattle.repair.proofs.pull_min_heat.Statement.{statement}
 use Rattle.repair.proofs.pull_min_heat.Tie as tie
@@ -13,5 +15,8 @@ pull-min-heat-spec =
     (λ c κs. tt)
     (λ c κs. tt)
     (λ c κs. tt)
-    (λ c. simp (c .update-attrs .ensures, c .before .clamp .ensures, c .before .before .sub .ensures, c .before .before .before .dead-band .ensures, sym (c .before .before .before .before .before .before .pulls-heat-limits .ensures) ∙ c .before .before .before .before .before .if1 .taken))
+    (λ c.
+    let b = c .before .before .before .before .before in
+    let a = b .before .before .args in
+    stored (setMinHeat (a .a)) (a .a) (c .update-attrs .ensures) (simp (c .before .clamp .ensures, c .before .before .sub .ensures, c .before .before .before .dead-band .ensures)) (b .before .pulls-heat-limits .ensures) (b .if1 .taken))
     (λ c. simp (sym (c .before .pulls-heat-limits .ensures) ∙ c .if1 .left)))
