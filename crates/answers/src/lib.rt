@@ -13,7 +13,7 @@ fn push(n: Notices, code: u16) -> Notices
     ensures { λ r. ⌜ r ≡ pushed n code ⌝ }
 {
     let at = n.len;
-    if at < 13 {
+    if at < Notices::MOST {
         let mut m = n;
         m.codes[at] = code;
         m.len = at + 1;
@@ -26,7 +26,7 @@ pub fn emit(es: Events, e: Event) -> Events
     ensures { λ r. ⌜ r ≡ emitted es e ⌝ }
 {
     let at = es.len;
-    if at < 6 {
+    if at < Events::MOST {
         let mut m = es;
         m.slots[at] = EventSlot { event: e };
         m.len = at + 1;

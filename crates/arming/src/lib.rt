@@ -6,12 +6,13 @@ use records::Answer;
 use records::Config;
 use records::Controller;
 use records::Readings;
+use records::answer_number;
 
 pub fn arm_clock(cfg: Config, r: Controller, d: Readings) -> Answer
     ensures { λ q. ⌜ q ≡ answer (spec.armClock cfg r d) ⌝ }
 {
     if !sound::is_sound(cfg, r) {
-        return orders::quiet_answer(28, r);
+        return orders::quiet_answer(answer_number::UNSOUND_RECORD, r);
     }
-    orders::quiet_answer(0, attribution::arm_clock(cfg, d, r))
+    orders::quiet_answer(answer_number::DONE, attribution::arm_clock(cfg, d, r))
 }

@@ -9,11 +9,8 @@ use records::Controller;
 use records::Readings;
 use records::Second;
 use records::SetpointChangeState;
+use records::attribute_id;
 use units::Hundredths;
-
-pub const MANUAL: u8 = 0;
-
-pub const EXTERNAL: u8 = 2;
 
 fn second_or_zero(s: Second) -> u32
     ensures { λ r. ⌜ r ≡ stampOf NoSecond s ⌝ }
@@ -87,7 +84,7 @@ fn arm(c: SetpointChangeState, second: Second) -> SetpointChangeState
 pub fn arm_clock(cfg: Config, d: Readings, r: Controller) -> Controller
     ensures { λ q. ⌜ q ≡ armedClock cfg d r ⌝ }
 {
-    if served::serves(cfg, 0x32) {
+    if served::serves(cfg, attribute_id::SETPOINT_CHANGE_SOURCE_TIMESTAMP) {
         let c = r.change;
         let node = d.node;
         let a = arm(c, node);

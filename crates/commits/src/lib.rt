@@ -9,6 +9,7 @@ use records::Moment;
 use records::Shadow;
 use records::Snapshot;
 use records::Temperature;
+use records::event_id;
 use units::Hundredths;
 
 fn pick_temperature(t: bool, a: Temperature, b: Temperature) -> Temperature
@@ -60,17 +61,17 @@ fn pick_last(t: bool, now: u64, last: Moment) -> Moment
 pub fn commit(cfg: Config, old: Snapshot, new: Snapshot, last: Moment, now: u64) -> EventState
     ensures { λ r. ⌜ r ≡ spec.committed cfg old new last now ⌝ }
 {
-    let told = event_conditions::judge(cfg, old, new, last, now);
-    let setpoints = served::emits(cfg, 3);
+    let emitted = event_conditions::emitted_events(cfg, old, new, last, now);
+    let setpoints = served::emits(cfg, event_id::SETPOINT_CHANGE);
     let a = new.temperature;
     let b = old.temperature;
-    let t = pick_temperature(told.temperature, a, b);
+    let t = pick_temperature(emitted.temperature, a, b);
     let h = pick_setpoint(setpoints, new.heating, old.heating);
     let c = pick_setpoint(setpoints, new.cooling, old.cooling);
-    let m = pick_byte(told.mode, new.mode, old.mode);
-    let r = pick_relays(told.relays, new.relays, old.relays);
-    let k = pick_byte(told.runningmode, new.runningmode, old.runningmode);
-    let l = pick_last(told.temperature, now, last);
+    let m = pick_byte(emitted.mode, new.mode, old.mode);
+    let r = pick_relays(emitted.relays, new.relays, old.relays);
+    let k = pick_byte(emitted.runningmode, new.runningmode, old.runningmode);
+    let l = pick_last(emitted.temperature, now, last);
     let s = Snapshot {
         temperature: t,
         heating: h,

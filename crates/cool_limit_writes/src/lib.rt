@@ -6,6 +6,7 @@ use records::Answer;
 use records::Config;
 use records::Controller;
 use records::Readings;
+use records::attribute_id;
 use units::Hundredths;
 
 pub fn write_min_cool_setpoint_limit(
@@ -17,11 +18,19 @@ pub fn write_min_cool_setpoint_limit(
     ensures { λ q. ⌜ q ≡ answer (spec.writeMinCoolSetpointLimit cfg r d v) ⌝ }
 {
     let mut s = r.attrs.settings;
-    let beside = limits::min_heat_setpoint(cfg, r.attrs.settings);
-    let barred = limit_rules::bars_cool_limit(cfg, v, cfg.absmincool, s.maxcool, beside);
+    let other = limits::min_heat_setpoint(cfg, r.attrs.settings);
+    let refused = limit_rules::is_cool_limit_refused(cfg, v, cfg.absmincool, s.maxcool, other);
     s.mincool = v;
     let a = attrs::update_attrs(r.attrs, s);
-    limit_stores::write_limit(false, cfg, r, d, barred, a, 0x17)
+    limit_stores::write_limit(
+        false,
+        cfg,
+        r,
+        d,
+        refused,
+        a,
+        attribute_id::MIN_COOL_SETPOINT_LIMIT,
+    )
 }
 
 pub fn write_max_cool_setpoint_limit(
@@ -33,9 +42,17 @@ pub fn write_max_cool_setpoint_limit(
     ensures { λ q. ⌜ q ≡ answer (spec.writeMaxCoolSetpointLimit cfg r d v) ⌝ }
 {
     let mut s = r.attrs.settings;
-    let beside = limits::max_heat_setpoint(cfg, r.attrs.settings);
-    let barred = limit_rules::bars_cool_limit(cfg, v, s.mincool, cfg.absmaxcool, beside);
+    let other = limits::max_heat_setpoint(cfg, r.attrs.settings);
+    let refused = limit_rules::is_cool_limit_refused(cfg, v, s.mincool, cfg.absmaxcool, other);
     s.maxcool = v;
     let a = attrs::update_attrs(r.attrs, s);
-    limit_stores::write_limit(false, cfg, r, d, barred, a, 0x18)
+    limit_stores::write_limit(
+        false,
+        cfg,
+        r,
+        d,
+        refused,
+        a,
+        attribute_id::MAX_COOL_SETPOINT_LIMIT,
+    )
 }

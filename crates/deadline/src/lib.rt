@@ -13,6 +13,8 @@ use records::Notices;
 use records::Order;
 use records::Readings;
 use records::Shadow;
+use records::answer_number;
+use records::event_id;
 
 fn is_waiting(cfg: Config, d: Readings, s: Shadow) -> bool
     ensures { λ r. ⌜ r ≡ spec.waiting cfg d s ⌝ }
@@ -20,7 +22,7 @@ fn is_waiting(cfg: Config, d: Readings, s: Shadow) -> bool
     match s {
         Shadow::Unseeded => false,
         Shadow::Seeded(old) => {
-            let emits = served::emits(cfg, 1);
+            let emits = served::emits(cfg, event_id::LOCAL_TEMPERATURE_CHANGE);
             let t = d.temperature;
             let now = temperature::reported_local_temperature(cfg, t);
             let then = old.temperature;
@@ -54,7 +56,7 @@ pub fn deferred_local_temperature_deadline(cfg: Config, r: Controller, d: Readin
     ensures { λ q. ⌜ q ≡ answer (spec.deadline cfg r d) ⌝ }
 {
     if !sound::is_sound(cfg, r) {
-        return orders::quiet_answer(28, r);
+        return orders::quiet_answer(answer_number::UNSOUND_RECORD, r);
     }
     let e = r.events;
     let shadow = e.shadow;
@@ -63,7 +65,7 @@ pub fn deferred_local_temperature_deadline(cfg: Config, r: Controller, d: Readin
     let n = Notices::none();
     let es = Events::none();
     Answer {
-        number: 0,
+        number: answer_number::DONE,
         rec: r,
         order: Order::NoOrder,
         notices: n,

@@ -15,6 +15,7 @@ use records::Order;
 use records::Readings;
 use records::Shadow;
 use records::Snapshot;
+use records::answer_number;
 
 // What taking events leaves.
 pub struct Taken {
@@ -76,7 +77,7 @@ pub fn answer_taken(t: Taken, n: Notices) -> Answer
     let r = t.rec;
     let e = t.events;
     Answer {
-        number: 0,
+        number: answer_number::DONE,
         rec: r,
         order: Order::NoOrder,
         notices: n,

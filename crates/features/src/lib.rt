@@ -2,6 +2,7 @@
 ghost use mathlib.Core.Path.{_≡_};
 ghost use Rattle.model.specs.Served as spec;
 use records::Config;
+use records::feature;
 
 fn supports_feature(cfg: Config, feature: u32) -> bool
     ensures { λ r. ⌜ r ≡ spec.supports cfg feature ⌝ }
@@ -12,24 +13,24 @@ fn supports_feature(cfg: Config, feature: u32) -> bool
 pub fn heats(cfg: Config) -> bool
     ensures { λ r. ⌜ r ≡ spec.heats cfg ⌝ }
 {
-    supports_feature(cfg, 0x01)
+    supports_feature(cfg, feature::HEATING)
 }
 
 pub fn cools(cfg: Config) -> bool
     ensures { λ r. ⌜ r ≡ spec.cools cfg ⌝ }
 {
-    supports_feature(cfg, 0x02)
+    supports_feature(cfg, feature::COOLING)
 }
 
 pub fn auto(cfg: Config) -> bool
     ensures { λ r. ⌜ r ≡ spec.auto cfg ⌝ }
 {
-    supports_feature(cfg, 0x20)
+    supports_feature(cfg, feature::AUTO_MODE)
 }
 
 // LTNE
-pub fn hides_temperature(cfg: Config) -> bool
-    ensures { λ r. ⌜ r ≡ spec.hidesTemperature cfg ⌝ }
+pub fn local_temperature_not_exposed(cfg: Config) -> bool
+    ensures { λ r. ⌜ r ≡ spec.localTemperatureNotExposed cfg ⌝ }
 {
-    supports_feature(cfg, 0x40)
+    supports_feature(cfg, feature::LOCAL_TEMPERATURE_NOT_EXPOSED)
 }

@@ -22,8 +22,8 @@ fn is_too_near_heating(cfg: Config, s: Settings, v: Hundredths) -> bool
 }
 
 // Cooling, once heating is `v`.
-pub fn cooling_beside(cfg: Config, s: Settings, v: Hundredths) -> Hundredths
-    ensures { λ r. ⌜ r ≡ spec.coolingBeside cfg s v ⌝ }
+pub fn cooling_with_gap(cfg: Config, s: Settings, v: Hundredths) -> Hundredths
+    ensures { λ r. ⌜ r ≡ spec.coolingWithGap cfg s v ⌝ }
 {
     if is_too_near_cooling(cfg, s, v) {
         return clamps::clamp_cool_setpoint(cfg, s, units::add(v, limits::dead_band(cfg)));
@@ -32,8 +32,8 @@ pub fn cooling_beside(cfg: Config, s: Settings, v: Hundredths) -> Hundredths
 }
 
 // Heating, once cooling is `v`.
-pub fn heating_beside(cfg: Config, s: Settings, v: Hundredths) -> Hundredths
-    ensures { λ r. ⌜ r ≡ spec.heatingBeside cfg s v ⌝ }
+pub fn heating_with_gap(cfg: Config, s: Settings, v: Hundredths) -> Hundredths
+    ensures { λ r. ⌜ r ≡ spec.heatingWithGap cfg s v ⌝ }
 {
     if is_too_near_heating(cfg, s, v) {
         return clamps::clamp_heat_setpoint(cfg, s, units::sub(v, limits::dead_band(cfg)));

@@ -6,6 +6,7 @@ use records::Answer;
 use records::Config;
 use records::Controller;
 use records::Readings;
+use records::attribute_id;
 use units::Hundredths;
 
 pub fn write_min_heat_setpoint_limit(
@@ -17,11 +18,19 @@ pub fn write_min_heat_setpoint_limit(
     ensures { λ q. ⌜ q ≡ answer (spec.writeMinHeatSetpointLimit cfg r d v) ⌝ }
 {
     let mut s = r.attrs.settings;
-    let beside = limits::min_cool_setpoint(cfg, r.attrs.settings);
-    let barred = limit_rules::bars_heat_limit(cfg, v, cfg.absminheat, s.maxheat, beside);
+    let other = limits::min_cool_setpoint(cfg, r.attrs.settings);
+    let refused = limit_rules::is_heat_limit_refused(cfg, v, cfg.absminheat, s.maxheat, other);
     s.minheat = v;
     let a = attrs::update_attrs(r.attrs, s);
-    limit_stores::write_limit(true, cfg, r, d, barred, a, 0x15)
+    limit_stores::write_limit(
+        true,
+        cfg,
+        r,
+        d,
+        refused,
+        a,
+        attribute_id::MIN_HEAT_SETPOINT_LIMIT,
+    )
 }
 
 pub fn write_max_heat_setpoint_limit(
@@ -33,9 +42,17 @@ pub fn write_max_heat_setpoint_limit(
     ensures { λ q. ⌜ q ≡ answer (spec.writeMaxHeatSetpointLimit cfg r d v) ⌝ }
 {
     let mut s = r.attrs.settings;
-    let beside = limits::max_cool_setpoint(cfg, r.attrs.settings);
-    let barred = limit_rules::bars_heat_limit(cfg, v, s.minheat, cfg.absmaxheat, beside);
+    let other = limits::max_cool_setpoint(cfg, r.attrs.settings);
+    let refused = limit_rules::is_heat_limit_refused(cfg, v, s.minheat, cfg.absmaxheat, other);
     s.maxheat = v;
     let a = attrs::update_attrs(r.attrs, s);
-    limit_stores::write_limit(true, cfg, r, d, barred, a, 0x16)
+    limit_stores::write_limit(
+        true,
+        cfg,
+        r,
+        d,
+        refused,
+        a,
+        attribute_id::MAX_HEAT_SETPOINT_LIMIT,
+    )
 }

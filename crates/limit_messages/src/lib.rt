@@ -7,9 +7,8 @@ use records::Answer;
 use records::Attrs;
 use records::Config;
 use records::Controller;
+use records::pending_mask;
 use units::Hundredths;
-
-const PENDING_LIMITS: u16 = 0x0F0;
 
 fn with_bits(o: Answer, bits: u16) -> Answer
     ensures { λ q. ⌜ q ≡ withBits o bits ⌝ }
@@ -50,5 +49,8 @@ pub fn limits_message(
     ensures { λ q. ⌜ q ≡ answer (spec.limitsMessage cfg r minh maxh minc maxc) ⌝ }
 {
     let a = take_limits(cfg, r.attrs, minh, maxh, minc, maxc);
-    with_bits(record_repair::repair_record(cfg, r, a), PENDING_LIMITS)
+    with_bits(
+        record_repair::repair_record(cfg, r, a),
+        pending_mask::LIMITS,
+    )
 }

@@ -1,36 +1,36 @@
-// model/specs/Writes: what bars a limit from being written.
+// model/specs/Writes: when a limit write is refused.
 ghost use mathlib.Core.Path.{_≡_};
 ghost use Rattle.model.specs.Writes as spec;
 use records::Config;
 use units::Hundredths;
 
-// Outside `lo`..`hi`, or with AUTO nearer than the dead band to the cooling limit beside it.
-pub fn bars_heat_limit(
+// Outside `lo`..`hi`, or with AUTO nearer than the dead band to the cooling limit of the same kind.
+pub fn is_heat_limit_refused(
     cfg: Config,
     v: Hundredths,
     lo: Hundredths,
     hi: Hundredths,
-    beside: Hundredths,
+    other: Hundredths,
 ) -> bool
-    ensures { λ r. ⌜ r ≡ spec.barsHeatLimit cfg v lo hi beside ⌝ }
+    ensures { λ r. ⌜ r ≡ spec.heatLimitRefused cfg v lo hi other ⌝ }
 {
     let inside = ranges::is_within(v, lo, hi);
     let auto = features::auto(cfg);
-    let near = units::is_above(v, units::sub(beside, limits::dead_band(cfg)));
+    let near = units::is_above(v, units::sub(other, limits::dead_band(cfg)));
     !inside | (auto & near)
 }
 
-pub fn bars_cool_limit(
+pub fn is_cool_limit_refused(
     cfg: Config,
     v: Hundredths,
     lo: Hundredths,
     hi: Hundredths,
-    beside: Hundredths,
+    other: Hundredths,
 ) -> bool
-    ensures { λ r. ⌜ r ≡ spec.barsCoolLimit cfg v lo hi beside ⌝ }
+    ensures { λ r. ⌜ r ≡ spec.coolLimitRefused cfg v lo hi other ⌝ }
 {
     let inside = ranges::is_within(v, lo, hi);
     let auto = features::auto(cfg);
-    let near = units::is_below(v, units::add(beside, limits::dead_band(cfg)));
+    let near = units::is_below(v, units::add(other, limits::dead_band(cfg)));
     !inside | (auto & near)
 }

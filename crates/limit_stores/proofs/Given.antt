@@ -13,8 +13,8 @@ use Rattle.records.specs.declared.Readings.{Readings}
 
 module _ (heat : Bool) (cfg : Config) (r : Controller) (d : Readings) (code : ℕ) where
   abbrev written : Bool → Attrs → Answer
-  written barred a = answer (limitWrite cfg r d (limitWriteRows cfg r code barred) (limitStored cfg r a code) (pullSide heat cfg d))
+  written refused a = answer (limitWrite cfg r d (limitWriteRows cfg r code refused) (limitStored cfg r a code) (pullSide heat cfg d))
 
-  -- bars tests a limit by the one beside it
-  pub given : (bars : Hundredths → Bool) {q : Answer} {t : Bool} {a b : Attrs} {x y : Hundredths} → q ≡ written t a → t ≡ bars x → x ≡ y → a ≡ b → q ≡ written (bars y) b
-  given bars h e f g = h ∙ ap₂ written (e ∙ ap bars f) g
+  -- the rule tests a limit by the other side's
+  pub given : (rule : Hundredths → Bool) {q : Answer} {t : Bool} {a b : Attrs} {x y : Hundredths} → q ≡ written t a → t ≡ rule x → x ≡ y → a ≡ b → q ≡ written (rule y) b
+  given rule h e f g = h ∙ ap₂ written (e ∙ ap rule f) g

@@ -9,6 +9,7 @@ use records::Config;
 use records::Controller;
 use records::Notices;
 use records::Readings;
+use records::answer_number;
 use stages::Stage;
 
 fn pull(heat: bool, cfg: Config, r: Controller, n: Notices, d: Readings) -> Stage
@@ -37,20 +38,20 @@ pub fn write_limit(
     cfg: Config,
     r: Controller,
     d: Readings,
-    barred: bool,
+    refused: bool,
     a: Attrs,
     code: u16,
 ) -> Answer
-    ensures { λ q. ⌜ q ≡ answer (spec.limitWrite cfg r d (spec.limitWriteRows cfg r code barred) (spec.limitStored cfg r a code) (spec.pullSide heat cfg d)) ⌝ }
+    ensures { λ q. ⌜ q ≡ answer (spec.limitWrite cfg r d (spec.limitWriteRows cfg r code refused) (spec.limitStored cfg r a code) (spec.pullSide heat cfg d)) ⌝ }
 {
     if !sound::is_sound(cfg, r) {
-        return orders::quiet_answer(28, r);
+        return orders::quiet_answer(answer_number::UNSOUND_RECORD, r);
     }
     if !served::serves(cfg, code) {
-        return orders::quiet_answer(24, r);
+        return orders::quiet_answer(answer_number::UNSERVED_ATTRIBUTE, r);
     }
-    if barred {
-        return orders::quiet_answer(22, r);
+    if refused {
+        return orders::quiet_answer(answer_number::OUTSIDE_RULE, r);
     }
     store_limit(heat, cfg, r, d, a, code)
 }

@@ -7,7 +7,7 @@ use Rattle.lines.specs.declared.Line.{Line}
 use Rattle.lines.specs.declared.Line.the-variants.{Nothing, Unreadable}
 
 -- an empty line and a comment, which begins with `#`, are passed over; any other line is at most 250 bytes long
-pub record Judged (line : List ℕ) (r : Line) : Type 0 where
+pub record LineRead (line : List ℕ) (r : Line) : Type 0 where
   pub empty : length line ≡ 0 → r ≡ Nothing
   pub comment : getD line 0 0 ≡ 35 → r ≡ Nothing
   pub long : (getD line 0 0 ≡ 35 → ⊥) → 250 < length line → r ≡ Unreadable

@@ -7,7 +7,7 @@ mod numbers;
 mod signed;
 mod values;
 
-ghost use Rattle.lines.specs.Lines.{Judged};
+ghost use Rattle.lines.specs.Lines.{LineRead};
 use fields::Fields;
 use records::Call;
 use records::Config;
@@ -38,7 +38,7 @@ fn line_of(f: Fields) -> Line {
 
 // What a line says, without its newline.
 pub fn read(line: &[u8]) -> Line
-    ensures { λ r. ⌜ Judged (now (line .entry)) r ⌝ }
+    ensures { λ r. ⌜ LineRead (now (line .entry)) r ⌝ }
 {
     if line.len() == 0 {
         return Line::Nothing;

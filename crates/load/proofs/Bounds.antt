@@ -15,7 +15,7 @@ use Rattle.records.specs.declared.Events.{Events}
 use Rattle.records.specs.declared.Order.{Order}
 use Rattle.records.specs.declared.Order.the-variants.{NoOrder, Apply}
 use Rattle.model.proofs.Logic.{by-cond}
-use Rattle.load.specs.Totals.{oneIf, ordersOf, chosenOf, turned, isSweep, loadOf, Roomy}
+use Rattle.load.specs.Totals.{oneIf, ordersOf, chosenOf, turned, isSweep, loadOf, TotalsBounded}
 use Rattle.load.specs.declared.totals.Load.{Load}
 
 push-most : (n : Notices) (c : ℕ) → n .len ≤ 13 → push n c .len ≤ 13
@@ -70,7 +70,7 @@ at-most s (suc t) =
       events = omega (arith, events-most (o .events));
     }
 
-pub roomy : (s t : ℕ) → t ≤ 2000000000000000 → Roomy (loadOf s t)
+pub roomy : (s t : ℕ) → t ≤ 2000000000000000 → TotalsBounded (loadOf s t)
 roomy s t h =
     let m = at-most s t in
     record { accepted = omega arith; notices = omega arith; orders = omega arith; events = omega arith }

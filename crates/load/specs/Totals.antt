@@ -56,7 +56,7 @@ abbrev pub turnsOf : ℕ → ℕ
 turnsOf count = count + count / 16
 
 -- totals to which an answer can be added
-pub record Roomy (l : Load) : Type 0 where
+pub record TotalsBounded (l : Load) : Type 0 where
   pub accepted : l .accepted ≤ 9223372036854775807
   pub notices : l .notices ≤ 9223372036854775807
   pub orders : l .orders ≤ 9223372036854775807

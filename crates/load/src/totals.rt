@@ -2,7 +2,7 @@
 ghost use mathlib.Core.Path.{_≡_};
 ghost use Prim.Native.Nat.{_+_, _%_, _<_, _≤_};
 ghost use Rattle.model.specs.Plant as spec;
-ghost use Rattle.load.specs.Totals.{oneIf, ordersOf, counted, chosenOf, turned, startedOf, loadOf, turnsOf, Roomy};
+ghost use Rattle.load.specs.Totals.{oneIf, ordersOf, counted, chosenOf, turned, startedOf, loadOf, turnsOf, TotalsBounded};
 use crate::draws;
 use crate::draws::Drawn;
 use records::Answer;
@@ -93,7 +93,7 @@ fn orders_of(o: Order) -> u64
 
 // A sweep is no call, so it is not counted as accepted.
 fn count(l: Load, sweep: bool, seed: u32, a: Answer) -> Load
-    requires { ⌜ Roomy l × (a .notices .len ≤ 13) × (a .events .len ≤ 6) ⌝ }
+    requires { ⌜ TotalsBounded l × (a .notices .len ≤ 13) × (a .events .len ≤ 6) ⌝ }
     ensures { λ r. ⌜ r ≡ counted l sweep seed a ⌝ }
 {
     let accepted = one_if((a.number == 0) & !sweep);
@@ -124,7 +124,7 @@ fn choose(sweep: bool, s: u32) -> Drawn
 
 // A drawn call or a sweep: one place alone calls the controller, so that it is compiled into the loop with the plant known.
 fn turn(l: Load, sweep: bool) -> Load
-    requires { ⌜ Roomy l ⌝ }
+    requires { ⌜ TotalsBounded l ⌝ }
     ensures { λ r. ⌜ r ≡ turned l sweep ⌝ }
 {
     let d = choose(sweep, l.seed);

@@ -12,6 +12,7 @@ use records::Config;
 use records::Controller;
 use records::Notices;
 use records::Readings;
+use records::change_source;
 use stages::Stage;
 use units::Hundredths;
 
@@ -40,7 +41,7 @@ fn record_local(
     let amount = local_change(h, c, oldh, oldc);
     let change = r.change;
     let hook = d.hook;
-    let a = attribution::record(change, attribution::MANUAL, amount, hook);
+    let a = attribution::record(change, change_source::MANUAL, amount, hook);
     let b = attribution::attribute(a, Attributed::Claimed(h, c));
     let mut q = r;
     q.change = b;

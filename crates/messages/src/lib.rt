@@ -6,23 +6,22 @@ use records::Answer;
 use records::Config;
 use records::Controller;
 use records::OutOfBandMessage;
-
-const PENDING_LOCAL_TEMPERATURE: u16 = 0x001;
-
-const PENDING_RUNNING_STATE: u16 = 0x100;
-
-const PENDING_UPDATE: u16 = 0x101;
+use records::answer_number;
+use records::pending_mask;
 
 pub fn out_of_band_message(cfg: Config, r: Controller, m: OutOfBandMessage) -> Answer
     ensures { λ q. ⌜ q ≡ answer (spec.outOfBandMessage cfg r m) ⌝ }
 {
     if !sound::is_sound(cfg, r) {
-        return orders::quiet_answer(28, r);
+        return orders::quiet_answer(answer_number::UNSOUND_RECORD, r);
     }
     match m {
-        OutOfBandMessage::LocalTemperature => pending::plain_message(r, PENDING_LOCAL_TEMPERATURE),
-        OutOfBandMessage::RunningState => pending::plain_message(r, PENDING_RUNNING_STATE),
-        OutOfBandMessage::Update => pending::plain_message(r, PENDING_UPDATE),
+        OutOfBandMessage::LocalTemperature => pending::plain_message(
+            r,
+            pending_mask::LOCAL_TEMPERATURE,
+        ),
+        OutOfBandMessage::RunningState => pending::plain_message(r, pending_mask::RUNNING_STATE),
+        OutOfBandMessage::Update => pending::plain_message(r, pending_mask::UPDATE),
         OutOfBandMessage::OccupiedHeatingSetpoint(v) => setpoint_messages::heating_message(
             cfg,
             r,

@@ -16,7 +16,7 @@ use Rattle.model.specs.Limits.{minHeatSetpoint, maxHeatSetpoint, minCool
 use Rattle.model.specs.Modes.{isSupportedSystemMode}
 use Rattle.model.specs.Attribution.{external, claimSetpoints}
 use Rattle.model.specs.Repair.{clampMinHeat, clampMaxHeat, clampMinCool, clampMaxCool, pullMinHeat, pullMaxHeat, clampHeating, clampCooling, pushCooling, pushHeating, repairMode, repairLimits, repairSetpoints, repaired}
-use Rattle.model.specs.Writes.{namesAbsentSide, tooNearCooling, tooNearHeating, coolingBeside, heatingBeside, storeHeatingSetpoint, storeCoolingSetpoint, pullHeating, pullCooling, raiseHeating, raiseCooling, raiseBoth, raiseSides}
+use Rattle.model.specs.Writes.{namesAbsentSide, tooNearCooling, tooNearHeating, coolingWithGap, heatingWithGap, storeHeatingSetpoint, storeCoolingSetpoint, pullHeating, pullCooling, raiseHeating, raiseCooling, raiseBoth, raiseSides}
 use Rattle.records.specs.declared.Config.{Config}
 use Rattle.records.specs.declared.Settings.{Settings}
 use Rattle.records.specs.declared.Attrs.{Attrs}
@@ -79,14 +79,14 @@ module _ (cfg : Config) (s t : Settings) (k : SameLimits s t) where
   unfolding clampCoolSetpoint
   same-clamp-cool x y e = let l = limits-in-force in simp (e, l .min-cool, l .max-cool)
 
-  -- the other setpoint beside a stored one
-  same-beside-cool : (x y : Hundredths) → x ≡ y → s .cooling ≡ t .cooling → coolingBeside cfg s x ≡ coolingBeside cfg t y
-  unfolding coolingBeside tooNearCooling clampCoolSetpoint
-  same-beside-cool x y e c = let l = limits-in-force in simp (e, c, l .min-cool, l .max-cool)
+  -- the other setpoint, with the gap kept to a stored one
+  same-cooling-with-gap : (x y : Hundredths) → x ≡ y → s .cooling ≡ t .cooling → coolingWithGap cfg s x ≡ coolingWithGap cfg t y
+  unfolding coolingWithGap tooNearCooling clampCoolSetpoint
+  same-cooling-with-gap x y e c = let l = limits-in-force in simp (e, c, l .min-cool, l .max-cool)
 
-  same-beside-heat : (x y : Hundredths) → x ≡ y → s .heating ≡ t .heating → heatingBeside cfg s x ≡ heatingBeside cfg t y
-  unfolding heatingBeside tooNearHeating clampHeatSetpoint
-  same-beside-heat x y e h = let l = limits-in-force in simp (e, h, l .min-heat, l .max-heat)
+  same-heating-with-gap : (x y : Hundredths) → x ≡ y → s .heating ≡ t .heating → heatingWithGap cfg s x ≡ heatingWithGap cfg t y
+  unfolding heatingWithGap tooNearHeating clampHeatSetpoint
+  same-heating-with-gap x y e h = let l = limits-in-force in simp (e, h, l .min-heat, l .max-heat)
 
   same-raised-heat : (a : Tenths) → s .heating ≡ t .heating → raised (s .heating) a (minHeatSetpoint cfg s) (maxHeatSetpoint cfg s) ≡ raised (t .heating) a (minHeatSetpoint cfg t) (maxHeatSetpoint cfg t)
   same-raised-heat a h = let l = limits-in-force in simp (h, l .min-heat, l .max-heat)
@@ -252,11 +252,11 @@ module _ (cfg : Config) (d : Readings) where
   module _ (q r : Controller) (l : SameLimits (q .attrs .settings) (r .attrs .settings)) where
     pub heating-points : (x y : Hundredths) → x ≡ y → (cools cfg ≡ true → q .attrs .settings .cooling ≡ r .attrs .settings .cooling) → PointsAlike (storeHeatingSetpoint cfg d external x q) (storeHeatingSetpoint cfg d external y r)
     unfolding storeHeatingSetpoint claimSetpoints
-    heating-points x y e f = record { heating = λ h. e; cooling = λ c. same-beside-cool cfg (q .attrs .settings) (r .attrs .settings) l x y e (f c) }
+    heating-points x y e f = record { heating = λ h. e; cooling = λ c. same-cooling-with-gap cfg (q .attrs .settings) (r .attrs .settings) l x y e (f c) }
 
     pub cooling-points : (x y : Hundredths) → x ≡ y → (heats cfg ≡ true → q .attrs .settings .heating ≡ r .attrs .settings .heating) → PointsAlike (storeCoolingSetpoint cfg d external x q) (storeCoolingSetpoint cfg d external y r)
     unfolding storeCoolingSetpoint claimSetpoints
-    cooling-points x y e f = record { heating = λ h. same-beside-heat cfg (q .attrs .settings) (r .attrs .settings) l x y e (f h); cooling = λ c. e }
+    cooling-points x y e f = record { heating = λ h. same-heating-with-gap cfg (q .attrs .settings) (r .attrs .settings) l x y e (f h); cooling = λ c. e }
 
   module _ (q r : Controller) (l : SameLimits (q .attrs .settings) (r .attrs .settings)) (p : SamePoints cfg (q .attrs .settings) (r .attrs .settings)) where
     stored-heat : (x y : Hundredths) → x ≡ y → PointsAlike (storeHeatingSetpoint cfg d external x q) (storeHeatingSetpoint cfg d external y r)

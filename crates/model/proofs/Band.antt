@@ -1,4 +1,4 @@
--- Every setpoint stays in its band, and the gap is kept unless licensed, over whole lists.
+-- Every setpoint stays in its band, and the gap is kept unless shortGapAllowed, over whole lists.
 use mathlib.Core.Path.{_≡_, refl, sym, _∙_, subst}
 use mathlib.Core.Bool.{Bool, true, false, _||_, cond}
 use mathlib.Core.List.{List, [], _∷_}
@@ -23,7 +23,7 @@ use Rattle.model.specs.Attribution.{external, armedClock, claimSetpoints
 use Rattle.model.specs.Validation.{accepted}
 use Rattle.model.specs.Repair.{clampHeating, clampCooling, pushCooling, pushHeating, repairMode, repairLimits, repairSetpoints, repaired}
 use Rattle.model.specs.Orders.{askSweep}
-use Rattle.model.specs.Writes.{applied, tooNearCooling, tooNearHeating, coolingBeside, heatingBeside, storeHeatingSetpoint, storeCoolingSetpoint, pullHeating, pullCooling, limitStored, raiseHeating, raiseCooling, raiseBoth, raiseSides, writeOccupiedHeatingSetpoint, writeOccupiedCoolingSetpoint, writeMinHeatSetpointLimit, writeMaxHeatSetpointLimit, writeMinCoolSetpointLimit, writeMaxCoolSetpointLimit, writeSystemMode, setControlSequenceOfOperation, raiseLowerSetpoint, armClock}
+use Rattle.model.specs.Writes.{applied, tooNearCooling, tooNearHeating, coolingWithGap, heatingWithGap, storeHeatingSetpoint, storeCoolingSetpoint, pullHeating, pullCooling, limitStored, raiseHeating, raiseCooling, raiseBoth, raiseSides, writeOccupiedHeatingSetpoint, writeOccupiedCoolingSetpoint, writeMinHeatSetpointLimit, writeMaxHeatSetpointLimit, writeMinCoolSetpointLimit, writeMaxCoolSetpointLimit, writeSystemMode, setControlSequenceOfOperation, raiseLowerSetpoint, armClock}
 use Rattle.model.specs.Messages.{messageTaken, heatingMessage, coolingMessage, modeMessage, limitsMessage, limitsTaken, outOfBandMessage}
 use Rattle.model.specs.Sweep.{Taken, snapshotOf, sameSnapshot, localRecorded, attributedTo, attributeLocalSetpointChange, started, takenFrom, takeEvents, sweepEvents, swept, sweep, timer, seedEvents, deadline}
 use Rattle.model.specs.Step.{opened, step}
@@ -40,7 +40,7 @@ use Rattle.records.specs.declared.OutOfBandMessage.{OutOfBandMessage}
 use Rattle.records.specs.declared.OutOfBandMessage.the-variants.{LocalTemperature, RunningState, Update, OccupiedHeatingSetpoint, OccupiedCoolingSetpoint, SystemMode, SetpointLimits}
 use Rattle.records.specs.declared.Call.{Call}
 use Rattle.records.specs.declared.Call.the-variants.{WriteOccupiedHeatingSetpoint, WriteOccupiedCoolingSetpoint, WriteMinHeatSetpointLimit, WriteMaxHeatSetpointLimit, WriteMinCoolSetpointLimit, WriteMaxCoolSetpointLimit, WriteSystemMode, SetControlSequenceOfOperation, RaiseLowerSetpoint, ArmClock, OutOfBand, SeedEvents, Sweep, Timer, Deadline}
-use Rattle.model.specs.Claims.{Entry, after, number, run, licenceAfter, licensed, GapKept, Band}
+use Rattle.model.specs.Claims.{Entry, after, number, run, shortGapAfter, shortGapAllowed, GapKept, Band}
 use Rattle.model.proofs.Logic.{clash, not-both, by-cond, by-refusal}
 use Rattle.model.proofs.Valid.{Valid, valid}
 use Rattle.model.proofs.Chain.{InForce, LimitTests, Placed, inside, apart, in-force, heat-clamped, cool-clamped}
@@ -49,9 +49,9 @@ use Rattle.model.proofs.Good.{Good, raised-heat, raised-cool, heat-rais
 use Rattle.model.proofs.Kept.{step-good, opened-good, min-heat-tests, max-heat-tests, min-cool-tests, max-cool-tests, far}
 
 module _ (cfg : Config) (s : Settings) (k : InForce cfg s) where
-  -- a heating value within its limits, and cooling beside it
-  heating-gap : (h : Hundredths) → inHeatLimits cfg s h ≡ true → auto cfg ≡ true → (h .0 +ℤ deadBand cfg .0) ≤ℤ coolingBeside cfg s h .0
-  unfolding coolingBeside tooNearCooling clampCoolSetpoint inHeatLimits clamped plus
+  -- a heating value within its limits, and cooling with the gap kept
+  heating-gap : (h : Hundredths) → inHeatLimits cfg s h ≡ true → auto cfg ≡ true → (h .0 +ℤ deadBand cfg .0) ≤ℤ coolingWithGap cfg s h .0
+  unfolding coolingWithGap tooNearCooling clampCoolSetpoint inHeatLimits clamped plus
   heating-gap h e a =
       let d = deadBand cfg in
       let i = inside h (minHeatSetpoint cfg s) (maxHeatSetpoint cfg s) e in
@@ -60,8 +60,8 @@ module _ (cfg : Config) (s : Settings) (k : InForce cfg s) where
       (λ t. clamp-above (h .0 +ℤ d .0) (h .0 +ℤ d .0) (minCoolSetpoint cfg s .0) (maxCoolSetpoint cfg s .0) (≤ℤ-refl (h .0 +ℤ d .0)) (omega (linear, sum-parts (h .0) (d .0), sum-parts (maxHeatSetpoint cfg s .0) (d .0))))
       (λ t. apart h (s .cooling) d (not-both (auto cfg) _ t a))
 
-  cooling-gap : (c : Hundredths) → inCoolLimits cfg s c ≡ true → auto cfg ≡ true → (heatingBeside cfg s c .0 +ℤ deadBand cfg .0) ≤ℤ c .0
-  unfolding heatingBeside tooNearHeating clampHeatSetpoint inCoolLimits clamped minus
+  cooling-gap : (c : Hundredths) → inCoolLimits cfg s c ≡ true → auto cfg ≡ true → (heatingWithGap cfg s c .0 +ℤ deadBand cfg .0) ≤ℤ c .0
+  unfolding heatingWithGap tooNearHeating clampHeatSetpoint inCoolLimits clamped minus
   cooling-gap c e a =
       let d = deadBand cfg in
       let i = inside c (minCoolSetpoint cfg s) (maxCoolSetpoint cfg s) e in
@@ -104,7 +104,7 @@ module _ (cfg : Config) (v : Valid cfg) where
       let c = pushHeating cfg (pushCooling cfg b) in
       by-cond (λ (x : Attrs). GapKept cfg (x .settings)) (isSupportedSystemMode cfg (c .settings .mode)) c (setMode c 0) (λ e. g) (λ e. g)
 
--- over calls: with a licence given before, what each call leaves
+-- over calls: what each leaves
 module _ (cfg : Config) (v : Valid cfg) (d : Readings) where
   abbrev Gapped : Stage → Type 0
   Gapped q = GapKept cfg (q .rec .attrs .settings)
@@ -192,17 +192,17 @@ either-way : (t b : Bool) → cond t b b ≡ false → b ≡ false
 either-way true b e = e
 either-way false b e = e
 
--- one call: what its licence leaves open
+-- one call: the gap is kept, or a short one allowed
 module _ (cfg : Config) (v : Valid cfg) (d : Readings) (r : Controller) (g : Good cfg r) (b : Bool) (old : b ≡ false → GapKept cfg (r .attrs .settings)) where
-  abbrev Licensed : Call → Outcome → Type 0
-  Licensed k o = cond (eqb (o .number) 0) (licenceAfter b k) b ≡ false → GapKept cfg (o .rec .attrs .settings)
+  abbrev GapOrAllowed : Call → Outcome → Type 0
+  GapOrAllowed k o = cond (eqb (o .number) 0) (shortGapAfter b k) b ≡ false → GapKept cfg (o .rec .attrs .settings)
 
-  -- a refusal keeps settings and licence
-  guarded : (k : Call) (q : Controller) (ws : List Row) (o : Outcome) → q .attrs ≡ r .attrs → numbered ws ≡ true → (Clear ws → Licensed k o) → Licensed k (unless ws q o)
+  -- a refusal keeps the settings, and whether a short gap is allowed
+  guarded : (k : Call) (q : Controller) (ws : List Row) (o : Outcome) → q .attrs ≡ r .attrs → numbered ws ≡ true → (Clear ws → GapOrAllowed k o) → GapOrAllowed k (unless ws q o)
   guarded k q ws o e m f =
-      by-refusal (Licensed k) ws q o m (λ n z l. subst (λ (a : Attrs). GapKept cfg (a .settings)) (sym e) (old (simp z at l))) f
+      by-refusal (GapOrAllowed k) ws q o m (λ n z l. subst (λ (a : Attrs). GapKept cfg (a .settings)) (sym e) (old (simp z at l))) f
 
-  message-gap : (m : OutOfBandMessage) → Licensed (OutOfBand m) (messageTaken cfg r m)
+  message-gap : (m : OutOfBandMessage) → GapOrAllowed (OutOfBand m) (messageTaken cfg r m)
   unfolding heatingMessage coolingMessage modeMessage limitsMessage askSweep
   message-gap LocalTemperature l = old l
   message-gap RunningState l = old l
@@ -219,7 +219,7 @@ module _ (cfg : Config) (v : Valid cfg) (d : Readings) (r : Controller) (g : Goo
   cool-limit-gap : (a : Attrs) → LimitTests cfg (a .settings) → GapKept cfg (a .settings) → (code : ℕ) → GapKept cfg (applied cfg d (andThen (limitStored cfg r a code) (pullCooling cfg d)) .rec .attrs .settings)
   cool-limit-gap a t k code = applied-gap cfg v d _ (cooling-pulled-gap cfg v d (withAttrs r a) t k)
 
-  pub step-gap : (k : Call) → Licensed k (step cfg r d k)
+  pub step-gap : (k : Call) → GapOrAllowed k (step cfg r d k)
   unfolding step writeOccupiedHeatingSetpoint writeOccupiedCoolingSetpoint writeMinHeatSetpointLimit writeMaxHeatSetpointLimit writeMinCoolSetpointLimit writeMaxCoolSetpointLimit writeSystemMode setControlSequenceOfOperation raiseLowerSetpoint armClock outOfBandMessage seedEvents sweep timer deadline applied askSweep started claimSetpoints
   step-gap (WriteOccupiedHeatingSetpoint x) =
       guarded (WriteOccupiedHeatingSetpoint x) r _ _ refl refl (λ c l. heating-stored-gap cfg v d external x r (g .placed .limits) (not-false (inHeatLimits cfg (r .attrs .settings) x) (c .1 .1 .0)))
@@ -248,11 +248,11 @@ module _ (cfg : Config) (v : Valid cfg) where
   run-good [] r g = g
   run-good (e ∷ l) r g = run-good l (after cfg r e) (step-good cfg v (e .readings) r g (e .call))
 
-  run-gap : (l : List Entry) (r : Controller) (b : Bool) → Good cfg r → (b ≡ false → GapKept cfg (r .attrs .settings)) → licensed cfg r b l ≡ false → GapKept cfg (run cfg r l .attrs .settings)
-  unfolding run licensed
+  run-gap : (l : List Entry) (r : Controller) (b : Bool) → Good cfg r → (b ≡ false → GapKept cfg (r .attrs .settings)) → shortGapAllowed cfg r b l ≡ false → GapKept cfg (run cfg r l .attrs .settings)
+  unfolding run shortGapAllowed
   run-gap [] r b g k z = k z
   run-gap (e ∷ l) r b g k z =
-      run-gap l (after cfg r e) (cond (eqb (number cfg r e) 0) (licenceAfter b (e .call)) b) (step-good cfg v (e .readings) r g (e .call)) (step-gap cfg v (e .readings) r g b k (e .call)) z
+      run-gap l (after cfg r e) (cond (eqb (number cfg r e) 0) (shortGapAfter b (e .call)) b) (step-good cfg v (e .readings) r g (e .call)) (step-gap cfg v (e .readings) r g b k (e .call)) z
 
 opened-gap : (cfg : Config) (s : Settings) → accepted cfg ≡ true → GapKept cfg (opened cfg s .rec .attrs .settings)
 unfolding opened askSweep

@@ -15,9 +15,9 @@ use Rattle.model.specs.Modes.{runningState}
 use Rattle.model.specs.Limits.{inHeatLimits, inCoolLimits, clampHeatSetpoint, clampCoolSetpoint}
 use Rattle.units.specs.Units.{widened}
 use Rattle.model.specs.Attribution.{external, armedClock, servedSetpoints}
-use Rattle.model.specs.Writes.{applied, thenNoticed, coolingBeside, heatingBeside, relayNotices, sourceNotices, storeHeatingSetpoint, storeCoolingSetpoint, pullHeating, pullCooling, raiseHeating, raiseCooling, raiseBoth, raiseSides, writeOccupiedHeatingSetpoint, writeOccupiedCoolingSetpoint, writeMinHeatSetpointLimit, writeMaxHeatSetpointLimit, writeMinCoolSetpointLimit, writeMaxCoolSetpointLimit, writeSystemMode, setControlSequenceOfOperation, raiseLowerSetpoint, armClock}
+use Rattle.model.specs.Writes.{applied, thenNoticed, coolingWithGap, heatingWithGap, relayNotices, sourceNotices, storeHeatingSetpoint, storeCoolingSetpoint, pullHeating, pullCooling, raiseHeating, raiseCooling, raiseBoth, raiseSides, writeOccupiedHeatingSetpoint, writeOccupiedCoolingSetpoint, writeMinHeatSetpointLimit, writeMaxHeatSetpointLimit, writeMinCoolSetpointLimit, writeMaxCoolSetpointLimit, writeSystemMode, setControlSequenceOfOperation, raiseLowerSetpoint, armClock}
 use Rattle.model.specs.Messages.{messageTaken, modeMessage, heatingMessage, coolingMessage, limitsMessage, outOfBandMessage}
-use Rattle.model.specs.Sweep.{Taken, started, localRecorded, tellsMode, tellsTemperature, tellsCooling, tellsHeating, tellsRelays, tellsRunningMode, sameSnapshot, snapshotOf, noticeTable, rowNotices, tableNotices, attributedTo, attributeLocalSetpointChange, eventsOf, takenFrom, takeEvents, sweepEvents, swept, sweep, timer, seedEvents, deadline}
+use Rattle.model.specs.Sweep.{Taken, started, localRecorded, modeEmitted, temperatureEmitted, coolingEmitted, heatingEmitted, relaysEmitted, runningModeEmitted, sameSnapshot, snapshotOf, noticeTable, rowNotices, tableNotices, attributedTo, attributeLocalSetpointChange, eventsOf, takenFrom, takeEvents, sweepEvents, swept, sweep, timer, seedEvents, deadline}
 use Rattle.model.specs.Step.{step}
 use Rattle.model.specs.Laws.{Bounded}
 use Rattle.records.specs.declared.Config.{Config}
@@ -69,12 +69,12 @@ module _ (cfg : Config) (d : Readings) where
   heating-most : (source : ℕ) (v : Hundredths) (r : Controller) → AtMost 5 (storeHeatingSetpoint cfg d source v r .notices)
   unfolding storeHeatingSetpoint
   heating-most source v r =
-      let s = r .attrs .settings in stored-most (changedTo (s .heating) v) (changedTo (s .cooling) (coolingBeside cfg s v)) 0x12 0x11
+      let s = r .attrs .settings in stored-most (changedTo (s .heating) v) (changedTo (s .cooling) (coolingWithGap cfg s v)) 0x12 0x11
 
   cooling-most : (source : ℕ) (v : Hundredths) (r : Controller) → AtMost 5 (storeCoolingSetpoint cfg d source v r .notices)
   unfolding storeCoolingSetpoint
   cooling-most source v r =
-      let s = r .attrs .settings in stored-most (changedTo (s .cooling) v) (changedTo (s .heating) (heatingBeside cfg s v)) 0x11 0x12
+      let s = r .attrs .settings in stored-most (changedTo (s .cooling) v) (changedTo (s .heating) (heatingWithGap cfg s v)) 0x11 0x12
 
   relay-most : AtMost 2 (relayNotices cfg d)
   unfolding relayNotices
@@ -150,7 +150,7 @@ module _ (cfg : Config) (d : Readings) where
   unfolding eventsOf
   events-most old new last now =
       simp length-append
-      (omega (arith, one-if (tellsMode cfg old new) (SystemModeChange (old .mode) (new .mode)), one-if (tellsTemperature cfg old new last now) (LocalTemperatureChange (new .temperature)), one-if (tellsCooling cfg old new) (SetpointChange 3 (old .cooling) (new .cooling)), one-if (tellsHeating cfg old new) (SetpointChange 4 (old .heating) (new .heating)), one-if (tellsRelays cfg old new) (RunningStateChange (old .relays) (new .relays)), one-if (tellsRunningMode cfg old new) (RunningModeChange (old .runningmode) (new .runningmode))))
+      (omega (arith, one-if (modeEmitted cfg old new) (SystemModeChange (old .mode) (new .mode)), one-if (temperatureEmitted cfg old new last now) (LocalTemperatureChange (new .temperature)), one-if (coolingEmitted cfg old new) (SetpointChange 3 (old .cooling) (new .cooling)), one-if (heatingEmitted cfg old new) (SetpointChange 4 (old .heating) (new .heating)), one-if (relaysEmitted cfg old new) (RunningStateChange (old .relays) (new .relays)), one-if (runningModeEmitted cfg old new) (RunningModeChange (old .runningmode) (new .runningmode))))
 
   from-most : (r : Controller) (s : Shadow) → AtMost 6 (takenFrom cfg d r s .events)
   from-most r Unseeded = omega arith

@@ -3,7 +3,7 @@ use mathlib.Core.Path.{refl}
 use mathlib.Core.List.{[], _∷_, _++_}
 use Rattle.model.specs.Plant.{at, plant, noReadings}
 use Rattle.model.specs.Claims.{LimitsThenWrites, heating-cooling, ModeWritten}
-use Rattle.model.specs.Examples.{first, plainly, front, narrowed, middle, pair, rest, wholeList, Worked, BetweenParts, LimitWritesPart}
+use Rattle.model.specs.Examples.{first, withoutReadings, front, narrowed, middle, pair, rest, wholeList, Worked, CallBetweenDiffers, LimitWritesDiffer}
 use Rattle.model.specs.Everything.{everything}
 use Rattle.records.specs.declared.OutOfBandMessage.the-variants.{OccupiedHeatingSetpoint}
 use Rattle.records.specs.declared.Call.the-variants.{SeedEvents, WriteOccupiedHeatingSetpoint, OutOfBand}
@@ -29,10 +29,10 @@ writes-met = record {
 pub mode-met : ModeWritten plant first wholeList
 unfolding everything
 mode-met = record {
-  before = plainly SeedEvents ∷ [];
+  before = withoutReadings SeedEvents ∷ [];
   mode = 3;
   readings = noReadings;
-  later = plainly (WriteOccupiedHeatingSetpoint (at 2950)) ∷ plainly (OutOfBand (OccupiedHeatingSetpoint (at 1200))) ∷ (narrowed ∷ (middle ++ (pair ++ rest)));
+  later = withoutReadings (WriteOccupiedHeatingSetpoint (at 2950)) ∷ withoutReadings (OutOfBand (OccupiedHeatingSetpoint (at 1200))) ∷ (narrowed ∷ (middle ++ (pair ++ rest)));
   whole = refl;
   taken = refl;
 }
@@ -41,10 +41,10 @@ pub worked : Worked
 unfolding everything
 worked = (refl, refl, refl)
 
-pub between-parts : BetweenParts
+pub call-between-differs : CallBetweenDiffers
 unfolding everything
-between-parts = (refl, refl)
+call-between-differs = (refl, refl)
 
-pub limit-writes-part : LimitWritesPart
+pub limit-writes-differ : LimitWritesDiffer
 unfolding everything
-limit-writes-part = (refl, refl)
+limit-writes-differ = (refl, refl)

@@ -16,9 +16,9 @@ use Rattle.model.specs.Attribution.{external, armedClock, claimSetpoints
 use Rattle.model.specs.Validation.{accepted}
 use Rattle.model.specs.Sound.{lastClock, soundHeatLimits, soundCoolLimits, soundGap, soundHeating, soundCooling, soundSettings, soundLast, sound}
 use Rattle.model.specs.Orders.{askSweep}
-use Rattle.model.specs.Writes.{applied, tooNearCooling, tooNearHeating, coolingBeside, heatingBeside, storeHeatingSetpoint, storeCoolingSetpoint, pullHeating, pullCooling, raiseHeating, raiseCooling, raiseBoth, raiseSides}
+use Rattle.model.specs.Writes.{applied, tooNearCooling, tooNearHeating, coolingWithGap, heatingWithGap, storeHeatingSetpoint, storeCoolingSetpoint, pullHeating, pullCooling, raiseHeating, raiseCooling, raiseBoth, raiseSides}
 use Rattle.model.specs.Messages.{messageTaken, heatingMessage, coolingMessage, modeMessage, limitsMessage, limitsTaken}
-use Rattle.model.specs.Sweep.{Taken, snapshotOf, started, attributedTo, localRecorded, attributeLocalSetpointChange, sameSnapshot, committed, tellsTemperature, takenFrom, takeEvents, sweepEvents, swept}
+use Rattle.model.specs.Sweep.{Taken, snapshotOf, started, attributedTo, localRecorded, attributeLocalSetpointChange, sameSnapshot, committed, temperatureEmitted, takenFrom, takeEvents, sweepEvents, swept}
 use Rattle.records.specs.declared.Config.{Config}
 use Rattle.records.specs.declared.Settings.{Settings}
 use Rattle.records.specs.declared.Moment.{Moment}
@@ -76,15 +76,15 @@ module _ (cfg : Config) (v : Valid cfg) (s : Settings) (t : LimitTests cfg s) wh
   points-placed h c f g =
       record { limits = record { heat = t .heat; cool = t .cool; gap = t .gap }; heating = implies (heats cfg) _ f; cooling = implies (cools cfg) _ g }
 
-  pub beside-cooling : (h : Hundredths) → (cools cfg ≡ true → inCoolLimits cfg s (s .cooling) ≡ true) → cools cfg ≡ true → inCoolLimits cfg s (coolingBeside cfg s h) ≡ true
-  unfolding coolingBeside
-  beside-cooling h old c =
+  pub cooling-gap-inside : (h : Hundredths) → (cools cfg ≡ true → inCoolLimits cfg s (s .cooling) ≡ true) → cools cfg ≡ true → inCoolLimits cfg s (coolingWithGap cfg s h) ≡ true
+  unfolding coolingWithGap
+  cooling-gap-inside h old c =
       by-cond (λ (x : Hundredths). inCoolLimits cfg s x ≡ true) (tooNearCooling cfg s h) _ (s .cooling)
       (λ e. cool-clamped cfg s _ chain) (λ e. old c)
 
-  pub beside-heating : (c : Hundredths) → (heats cfg ≡ true → inHeatLimits cfg s (s .heating) ≡ true) → heats cfg ≡ true → inHeatLimits cfg s (heatingBeside cfg s c) ≡ true
-  unfolding heatingBeside
-  beside-heating c old h =
+  pub heating-gap-inside : (c : Hundredths) → (heats cfg ≡ true → inHeatLimits cfg s (s .heating) ≡ true) → heats cfg ≡ true → inHeatLimits cfg s (heatingWithGap cfg s c) ≡ true
+  unfolding heatingWithGap
+  heating-gap-inside c old h =
       by-cond (λ (x : Hundredths). inHeatLimits cfg s x ≡ true) (tooNearHeating cfg s c) _ (s .heating)
       (λ e. heat-clamped cfg s _ chain) (λ e. old h)
 
@@ -111,14 +111,14 @@ module _ (cfg : Config) (v : Valid cfg) (d : Readings) where
   heating-stored source h r k c e =
       let s = r .attrs .settings in
       let t = k .limits in
-      record { placed = points-placed cfg v s t h (coolingBeside cfg s h) (λ z. e) (beside-cooling cfg v s t h (cooling-inside cfg s c)); mode = k .mode; last = k .last }
+      record { placed = points-placed cfg v s t h (coolingWithGap cfg s h) (λ z. e) (cooling-gap-inside cfg v s t h (cooling-inside cfg s c)); mode = k .mode; last = k .last }
 
   pub cooling-stored : (source : ℕ) (c : Hundredths) (r : Controller) → Rest cfg r → soundHeating cfg (r .attrs .settings) ≡ true → inCoolLimits cfg (r .attrs .settings) c ≡ true → Good cfg (storeCoolingSetpoint cfg d source c r .rec)
   unfolding storeCoolingSetpoint claimSetpoints
   cooling-stored source c r k h e =
       let s = r .attrs .settings in
       let t = k .limits in
-      record { placed = points-placed cfg v s t (heatingBeside cfg s c) c (beside-heating cfg v s t c (heating-inside cfg s h)) (λ z. e); mode = k .mode; last = k .last }
+      record { placed = points-placed cfg v s t (heatingWithGap cfg s c) c (heating-gap-inside cfg v s t c (heating-inside cfg s h)) (λ z. e); mode = k .mode; last = k .last }
 
   abbrev GoodStage : Stage → Type 0
   GoodStage q = Good cfg (q .rec)
@@ -203,7 +203,7 @@ module _ (cfg : Config) (v : Valid cfg) (d : Readings) where
       (λ f. record {
         placed = g .placed;
         mode = g .mode;
-        last = by-cond (λ (m : Moment). soundLast m ≡ true) (tellsTemperature cfg old (snapshotOf cfg d r) (r .events .last) (d .clock)) (Ms (d .clock)) (r .events .last) (λ t. clock-sound e) (λ t. g .last);
+        last = by-cond (λ (m : Moment). soundLast m ≡ true) (temperatureEmitted cfg old (snapshotOf cfg d r) (r .events .last) (d .clock)) (Ms (d .clock)) (r .events .last) (λ t. clock-sound e) (λ t. g .last);
       })
 
   pub events-good : (r : Controller) → ltb lastClock (d .clock) ≡ false → Good cfg r → Good cfg (takeEvents cfg d r .rec)

@@ -128,33 +128,33 @@ SetpointsAgree =
     (cfg : Config) (s t : Settings) (l : List Entry) → accepted cfg ≡ true → LimitsThenWrites cfg (opened cfg s .rec) l
     → EqualSetpoints cfg (run cfg (opened cfg s .rec) l .attrs .settings) (run cfg (opened cfg t .rec) l .attrs .settings)
 
--- The licence of a short gap: opened by an accepted out-of-band setpoint, ended by the next accepted setpoint write, raise/lower or limits message
-abbrev pub licenceAfter : Bool → Call → Bool
-licenceAfter b (WriteOccupiedHeatingSetpoint v) = false
-licenceAfter b (WriteOccupiedCoolingSetpoint v) = false
-licenceAfter b (WriteMinHeatSetpointLimit v) = b
-licenceAfter b (WriteMaxHeatSetpointLimit v) = b
-licenceAfter b (WriteMinCoolSetpointLimit v) = b
-licenceAfter b (WriteMaxCoolSetpointLimit v) = b
-licenceAfter b (WriteSystemMode v) = b
-licenceAfter b (SetControlSequenceOfOperation v) = b
-licenceAfter b (RaiseLowerSetpoint mode amount) = false
-licenceAfter b ArmClock = b
-licenceAfter b (OutOfBand LocalTemperature) = b
-licenceAfter b (OutOfBand RunningState) = b
-licenceAfter b (OutOfBand Update) = b
-licenceAfter b (OutOfBand (OccupiedHeatingSetpoint v)) = true
-licenceAfter b (OutOfBand (OccupiedCoolingSetpoint v)) = true
-licenceAfter b (OutOfBand (SystemMode v)) = b
-licenceAfter b (OutOfBand (SetpointLimits w x y z)) = false
-licenceAfter b SeedEvents = b
-licenceAfter b Sweep = b
-licenceAfter b Timer = b
-licenceAfter b Deadline = b
+-- Whether a short gap is allowed: from an accepted out-of-band setpoint to the next accepted setpoint write, raise/lower or limits message
+abbrev pub shortGapAfter : Bool → Call → Bool
+shortGapAfter b (WriteOccupiedHeatingSetpoint v) = false
+shortGapAfter b (WriteOccupiedCoolingSetpoint v) = false
+shortGapAfter b (WriteMinHeatSetpointLimit v) = b
+shortGapAfter b (WriteMaxHeatSetpointLimit v) = b
+shortGapAfter b (WriteMinCoolSetpointLimit v) = b
+shortGapAfter b (WriteMaxCoolSetpointLimit v) = b
+shortGapAfter b (WriteSystemMode v) = b
+shortGapAfter b (SetControlSequenceOfOperation v) = b
+shortGapAfter b (RaiseLowerSetpoint mode amount) = false
+shortGapAfter b ArmClock = b
+shortGapAfter b (OutOfBand LocalTemperature) = b
+shortGapAfter b (OutOfBand RunningState) = b
+shortGapAfter b (OutOfBand Update) = b
+shortGapAfter b (OutOfBand (OccupiedHeatingSetpoint v)) = true
+shortGapAfter b (OutOfBand (OccupiedCoolingSetpoint v)) = true
+shortGapAfter b (OutOfBand (SystemMode v)) = b
+shortGapAfter b (OutOfBand (SetpointLimits w x y z)) = false
+shortGapAfter b SeedEvents = b
+shortGapAfter b Sweep = b
+shortGapAfter b Timer = b
+shortGapAfter b Deadline = b
 
-unfoldable pub licensed : Config → Controller → Bool → List Entry → Bool
-licensed cfg r b [] = b
-licensed cfg r b (e ∷ l) = licensed cfg (after cfg r e) (cond (eqb (number cfg r e) 0) (licenceAfter b (e .call)) b) l
+unfoldable pub shortGapAllowed : Config → Controller → Bool → List Entry → Bool
+shortGapAllowed cfg r b [] = b
+shortGapAllowed cfg r b (e ∷ l) = shortGapAllowed cfg (after cfg r e) (cond (eqb (number cfg r e) 0) (shortGapAfter b (e .call)) b) l
 
 -- each served setpoint within its limits in force
 pub record InBand (cfg : Config) (s : Settings) : Type 0 where
@@ -165,9 +165,9 @@ pub record InBand (cfg : Config) (s : Settings) : Type 0 where
 abbrev pub GapKept : Config → Settings → Type 0
 GapKept cfg s = auto cfg ≡ true → (s .heating .0 +ℤ deadBand cfg .0) ≤ℤ s .cooling .0
 
--- Band. After opening and after each call of any list the setpoints lie in their band, and the gap is kept unless licensed
+-- Band. After opening and after each call of any list the setpoints lie in their band, and the gap is kept unless shortGapAllowed
 abbrev pub Band : Type 0
 Band =
     (cfg : Config) (s : Settings) (l : List Entry) → accepted cfg ≡ true
     → InBand cfg (run cfg (opened cfg s .rec) l .attrs .settings)
-    × (licensed cfg (opened cfg s .rec) false l ≡ false → GapKept cfg (run cfg (opened cfg s .rec) l .attrs .settings))
+    × (shortGapAllowed cfg (opened cfg s .rec) false l ≡ false → GapKept cfg (run cfg (opened cfg s .rec) l .attrs .settings))

@@ -20,12 +20,12 @@ abbrev pub auto : Config → Bool
 auto cfg = supports cfg 0x20
 
 -- LTNE
-abbrev pub hidesTemperature : Config → Bool
-hidesTemperature cfg = supports cfg 0x40
+abbrev pub localTemperatureNotExposed : Config → Bool
+localTemperatureNotExposed cfg = supports cfg 0x40
 
 -- TEVT
-abbrev pub tellsEvents : Config → Bool
-tellsEvents cfg = supports cfg 0x200
+abbrev pub supportsEvents : Config → Bool
+supportsEvents cfg = supports cfg 0x200
 
 -- the bit 2^code of a set
 unfoldable pub listed : ℕ → ℕ → Bool

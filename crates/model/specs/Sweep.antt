@@ -5,7 +5,7 @@ use Prim.Native.Nat.{ℕ, _+_}
 use lib.Dec.{eqb, ltb}
 use Rattle.units.specs.Units.{equal, saturatedDifference}
 use Rattle.units.specs.declared.Hundredths.{Hundredths}
-use Rattle.records.specs.Records.{firstSnapshot, withPending, withEvents, withChange, changedTo}
+use Rattle.records.specs.Records.{currentSnapshot, firstSnapshot, withPending, withEvents, withChange, changedTo}
 use Rattle.model.specs.Answers.{Outcome, Stage, onlyIf, quiet, unchanged}
 use Rattle.model.specs.Refusals.{Row, row, unless}
 use Rattle.model.specs.Served.{heats, cools, listed, emits, noticed}
@@ -52,14 +52,11 @@ tableNotices cfg pending (w ∷ ws) = rowNotices cfg pending w ++ tableNotices c
 -- what the events report, now
 unfoldable pub snapshotOf : Config → Readings → Controller → Snapshot
 snapshotOf cfg d r =
-    firstSnapshot (reportedTemperature cfg (d .temperature)) (r .attrs .settings) (runningState cfg (d .relaysbefore)) (runningMode (runningState cfg (d .relaysbefore)))
-
-abbrev pub withShadow : EventState → Snapshot → EventState
-withShadow e s = record { shadow = Seeded s; last = e .last }
+    currentSnapshot (reportedTemperature cfg (d .temperature)) (r .attrs .settings) (runningState cfg (d .relaysbefore)) (runningMode (runningState cfg (d .relaysbefore)))
 
 -- starting takes the snapshot and claims the setpoints
 unfoldable pub started : Config → Readings → Controller → Controller
-started cfg d r = claimSetpoints cfg (withEvents r (withShadow (r .events) (snapshotOf cfg d r)))
+started cfg d r = claimSetpoints cfg (firstSnapshot r (snapshotOf cfg d r))
 
 -- heating's saturated difference if it moved, else cooling's
 abbrev pub localChange : Hundredths → Hundredths → Hundredths → Hundredths → Hundredths
@@ -94,46 +91,46 @@ sameSnapshot a b =
     (eqb (a .mode) (b .mode) && (eqb (a .relays) (b .relays) && eqb (a .runningmode) (b .runningmode)))
 
 -- only served events leave, setpoint ones only for a side the features have
-unfoldable pub tellsMode : Config → Snapshot → Snapshot → Bool
-tellsMode cfg old new = emits cfg 0 && not (eqb (old .mode) (new .mode))
+unfoldable pub modeEmitted : Config → Snapshot → Snapshot → Bool
+modeEmitted cfg old new = emits cfg 0 && not (eqb (old .mode) (new .mode))
 
-unfoldable pub tellsTemperature : Config → Snapshot → Snapshot → Moment → ℕ → Bool
-tellsTemperature cfg old new last now = emits cfg 1 && eventDue (old .temperature) (new .temperature) (cfg .delta) last now
+unfoldable pub temperatureEmitted : Config → Snapshot → Snapshot → Moment → ℕ → Bool
+temperatureEmitted cfg old new last now = emits cfg 1 && eventDue (old .temperature) (new .temperature) (cfg .delta) last now
 
-unfoldable pub tellsCooling : Config → Snapshot → Snapshot → Bool
-tellsCooling cfg old new = emits cfg 3 && (cools cfg && changedTo (old .cooling) (new .cooling))
+unfoldable pub coolingEmitted : Config → Snapshot → Snapshot → Bool
+coolingEmitted cfg old new = emits cfg 3 && (cools cfg && changedTo (old .cooling) (new .cooling))
 
-unfoldable pub tellsHeating : Config → Snapshot → Snapshot → Bool
-tellsHeating cfg old new = emits cfg 3 && (heats cfg && changedTo (old .heating) (new .heating))
+unfoldable pub heatingEmitted : Config → Snapshot → Snapshot → Bool
+heatingEmitted cfg old new = emits cfg 3 && (heats cfg && changedTo (old .heating) (new .heating))
 
-unfoldable pub tellsRelays : Config → Snapshot → Snapshot → Bool
-tellsRelays cfg old new = emits cfg 4 && not (eqb (old .relays) (new .relays))
+unfoldable pub relaysEmitted : Config → Snapshot → Snapshot → Bool
+relaysEmitted cfg old new = emits cfg 4 && not (eqb (old .relays) (new .relays))
 
-unfoldable pub tellsRunningMode : Config → Snapshot → Snapshot → Bool
-tellsRunningMode cfg old new = emits cfg 5 && not (eqb (old .runningmode) (new .runningmode))
+unfoldable pub runningModeEmitted : Config → Snapshot → Snapshot → Bool
+runningModeEmitted cfg old new = emits cfg 5 && not (eqb (old .runningmode) (new .runningmode))
 
 -- order: mode, temperature, cooling setpoint, heating setpoint, relays, running mode
 unfoldable pub eventsOf : Config → Snapshot → Snapshot → Moment → ℕ → List Event
 eventsOf cfg old new last now =
-    onlyIf (tellsMode cfg old new) (SystemModeChange (old .mode) (new .mode) ∷ []) ++
-    (onlyIf (tellsTemperature cfg old new last now) (LocalTemperatureChange (new .temperature) ∷ []) ++
-    (onlyIf (tellsCooling cfg old new) (SetpointChange 3 (old .cooling) (new .cooling) ∷ []) ++
-    (onlyIf (tellsHeating cfg old new) (SetpointChange 4 (old .heating) (new .heating) ∷ []) ++
-    (onlyIf (tellsRelays cfg old new) (RunningStateChange (old .relays) (new .relays) ∷ []) ++
-    onlyIf (tellsRunningMode cfg old new) (RunningModeChange (old .runningmode) (new .runningmode) ∷ [])))))
+    onlyIf (modeEmitted cfg old new) (SystemModeChange (old .mode) (new .mode) ∷ []) ++
+    (onlyIf (temperatureEmitted cfg old new last now) (LocalTemperatureChange (new .temperature) ∷ []) ++
+    (onlyIf (coolingEmitted cfg old new) (SetpointChange 3 (old .cooling) (new .cooling) ∷ []) ++
+    (onlyIf (heatingEmitted cfg old new) (SetpointChange 4 (old .heating) (new .heating) ∷ []) ++
+    (onlyIf (relaysEmitted cfg old new) (RunningStateChange (old .relays) (new .relays) ∷ []) ++
+    onlyIf (runningModeEmitted cfg old new) (RunningModeChange (old .runningmode) (new .runningmode) ∷ [])))))
 
 -- only what was emitted moves in the snapshot, except that both setpoints move whenever SetpointChange is served
 unfoldable pub committed : Config → Snapshot → Snapshot → Moment → ℕ → EventState
 committed cfg old new last now = record {
   shadow = Seeded (record {
-    temperature = cond (tellsTemperature cfg old new last now) (new .temperature) (old .temperature);
+    temperature = cond (temperatureEmitted cfg old new last now) (new .temperature) (old .temperature);
     heating = cond (emits cfg 3) (new .heating) (old .heating);
     cooling = cond (emits cfg 3) (new .cooling) (old .cooling);
-    mode = cond (tellsMode cfg old new) (new .mode) (old .mode);
-    relays = cond (tellsRelays cfg old new) (new .relays) (old .relays);
-    runningmode = cond (tellsRunningMode cfg old new) (new .runningmode) (old .runningmode);
+    mode = cond (modeEmitted cfg old new) (new .mode) (old .mode);
+    relays = cond (relaysEmitted cfg old new) (new .relays) (old .relays);
+    runningmode = cond (runningModeEmitted cfg old new) (new .runningmode) (old .runningmode);
   });
-  last = cond (tellsTemperature cfg old new last now) (Ms now) last;
+  last = cond (temperatureEmitted cfg old new last now) (Ms now) last;
 }
 
 -- what taking events leaves

@@ -4,7 +4,7 @@ use Prim.Native.Nat.{ℕ, _-_}
 use lib.Dec.{leb}
 use Rattle.units.specs.Units.{apart}
 use Rattle.units.specs.declared.Hundredths.{Hundredths}
-use Rattle.model.specs.Served.{hidesTemperature}
+use Rattle.model.specs.Served.{localTemperatureNotExposed}
 use Rattle.records.specs.declared.Config.{Config}
 use Rattle.records.specs.declared.Temperature.{Temperature}
 use Rattle.records.specs.declared.Temperature.the-variants.{NoReading, Reading}
@@ -28,4 +28,4 @@ eventDue previous current delta last now = significant previous current delta &&
 
 -- with LTNE the reported temperature is null
 unfoldable pub reportedTemperature : Config → Temperature → Temperature
-reportedTemperature cfg t = cond (hidesTemperature cfg) NoReading t
+reportedTemperature cfg t = cond (localTemperatureNotExposed cfg) NoReading t

@@ -7,7 +7,7 @@ use lib.Dec.{eqb}
 use Rattle.units.specs.Units.{inHundredths, less, minus, above}
 use Rattle.records.specs.Records.{zeroHundredths}
 use Rattle.model.specs.Refusals.{Row, row, firstFailing}
-use Rattle.model.specs.Served.{heats, cools, auto, hidesTemperature, tellsEvents, listed, serves, emits, hasHeatLimits, hasCoolLimits, someHeatLimit, someCoolLimit}
+use Rattle.model.specs.Served.{heats, cools, auto, localTemperatureNotExposed, supportsEvents, listed, serves, emits, hasHeatLimits, hasCoolLimits, someHeatLimit, someCoolLimit}
 use Rattle.model.specs.Units.{deadBand}
 use Rattle.model.specs.Modes.{sequenceHeats, sequenceCools}
 use Rattle.records.specs.declared.Config.{Config}
@@ -50,16 +50,16 @@ limitRows cfg =
 -- 12 served without TEVT, 13 served where it does not apply, 14 TEVT and not served where it applies
 abbrev pub eventRow : Config → ℕ → Bool → List Row
 eventRow cfg code applies =
-    row 12 (emits cfg code && not (tellsEvents cfg)) ∷
+    row 12 (emits cfg code && not (supportsEvents cfg)) ∷
     row 13 (emits cfg code && not applies) ∷
-    row 14 (tellsEvents cfg && (applies && not (emits cfg code))) ∷ []
+    row 14 (supportsEvents cfg && (applies && not (emits cfg code))) ∷ []
 
 -- 11 Occupancy, ActiveSchedule or ActivePreset; then mode, temperature, setpoint, relays, running mode; 15 event delta below 0
 unfoldable pub eventRows : Config → List Row
 eventRows cfg =
     row 11 (emits cfg 2 || (emits cfg 6 || emits cfg 7)) ∷
     (eventRow cfg 0 true ++
-    (eventRow cfg 1 (not (hidesTemperature cfg)) ++
+    (eventRow cfg 1 (not (localTemperatureNotExposed cfg)) ++
     (eventRow cfg 3 true ++
     (eventRow cfg 4 true ++
     (eventRow cfg 5 (auto cfg) ++

@@ -51,12 +51,12 @@ unfoldable pub tooNearHeating : Config → Settings → Hundredths → Bool
 tooNearHeating cfg s v = auto cfg && below v (plus (s .heating) (deadBand cfg))
 
 -- then cooling becomes clamped heating + dead band
-unfoldable pub coolingBeside : Config → Settings → Hundredths → Hundredths
-coolingBeside cfg s v = cond (tooNearCooling cfg s v) (clampCoolSetpoint cfg s (plus v (deadBand cfg))) (s .cooling)
+unfoldable pub coolingWithGap : Config → Settings → Hundredths → Hundredths
+coolingWithGap cfg s v = cond (tooNearCooling cfg s v) (clampCoolSetpoint cfg s (plus v (deadBand cfg))) (s .cooling)
 
 -- cooling mirrors this
-unfoldable pub heatingBeside : Config → Settings → Hundredths → Hundredths
-heatingBeside cfg s v = cond (tooNearHeating cfg s v) (clampHeatSetpoint cfg s (minus v (deadBand cfg))) (s .heating)
+unfoldable pub heatingWithGap : Config → Settings → Hundredths → Hundredths
+heatingWithGap cfg s v = cond (tooNearHeating cfg s v) (clampHeatSetpoint cfg s (minus v (deadBand cfg))) (s .heating)
 
 -- a change that differs is recorded, with the saturated difference
 unfoldable pub recordedIf : Bool → Readings → ℕ → Hundredths → Hundredths → SetpointChangeState → SetpointChangeState
@@ -67,20 +67,20 @@ unfoldable pub storeHeatingSetpoint : Config → Readings → ℕ → Hundredths
 storeHeatingSetpoint cfg d source v r =
     let s = r .attrs .settings in
     let moved = changedTo (s .heating) v in
-    let beside = coolingBeside cfg s v in
+    let other = coolingWithGap cfg s v in
     record {
-      rec = claimSetpoints cfg (withChange (withAttrs r (setCooling (setHeating (r .attrs) v) beside)) (recordedIf moved d source (s .heating) v (r .change)));
-      notices = onlyIf moved (noticed cfg 0x12 ++ sourceNotices cfg) ++ onlyIf (changedTo (s .cooling) beside) (noticed cfg 0x11);
+      rec = claimSetpoints cfg (withChange (withAttrs r (setCooling (setHeating (r .attrs) v) other)) (recordedIf moved d source (s .heating) v (r .change)));
+      notices = onlyIf moved (noticed cfg 0x12 ++ sourceNotices cfg) ++ onlyIf (changedTo (s .cooling) other) (noticed cfg 0x11);
     }
 
 unfoldable pub storeCoolingSetpoint : Config → Readings → ℕ → Hundredths → Controller → Stage
 storeCoolingSetpoint cfg d source v r =
     let s = r .attrs .settings in
     let moved = changedTo (s .cooling) v in
-    let beside = heatingBeside cfg s v in
+    let other = heatingWithGap cfg s v in
     record {
-      rec = claimSetpoints cfg (withChange (withAttrs r (setHeating (setCooling (r .attrs) v) beside)) (recordedIf moved d source (s .cooling) v (r .change)));
-      notices = onlyIf moved (noticed cfg 0x11 ++ sourceNotices cfg) ++ onlyIf (changedTo (s .heating) beside) (noticed cfg 0x12);
+      rec = claimSetpoints cfg (withChange (withAttrs r (setHeating (setCooling (r .attrs) v) other)) (recordedIf moved d source (s .cooling) v (r .change)));
+      notices = onlyIf moved (noticed cfg 0x11 ++ sourceNotices cfg) ++ onlyIf (changedTo (s .heating) other) (noticed cfg 0x12);
     }
 
 -- 24: write to an unserved attribute
@@ -118,9 +118,9 @@ unfoldable pub pullSide : Bool → Config → Readings → Controller → Stage
 pullSide true = pullHeating
 pullSide false = pullCooling
 
--- a limit write: refused where its attribute is unserved or its value is barred; else the limit is stored and noticed, then pulls
+-- a limit write: refused where its attribute is unserved or its value is refused; else the limit is stored and noticed, then pulls
 abbrev pub limitWriteRows : Config → Controller → ℕ → Bool → List Row
-limitWriteRows cfg r code barred = unsound cfg r ∷ unserved cfg code ∷ row 22 barred ∷ []
+limitWriteRows cfg r code refused = unsound cfg r ∷ unserved cfg code ∷ row 22 refused ∷ []
 
 abbrev pub limitStored : Config → Controller → Attrs → ℕ → Stage
 limitStored cfg r a code = record { rec = withAttrs r a; notices = noticed cfg code }
@@ -128,47 +128,47 @@ limitStored cfg r a code = record { rec = withAttrs r a; notices = noticed cfg c
 abbrev pub limitWrite : Config → Controller → Readings → List Row → Stage → (Controller → Stage) → Outcome
 limitWrite cfg r d rows stored pull = unless rows r (applied cfg d (andThen stored pull))
 
--- AUTO keeps heating limits at most the cooling limit beside them − dead band
-abbrev pub barsHeatLimit : Config → Hundredths → Hundredths → Hundredths → Hundredths → Bool
-barsHeatLimit cfg v lo hi beside = not (within v lo hi) || (auto cfg && above v (minus beside (deadBand cfg)))
+-- AUTO keeps heating limits at most the cooling limit of the same kind − dead band
+abbrev pub heatLimitRefused : Config → Hundredths → Hundredths → Hundredths → Hundredths → Bool
+heatLimitRefused cfg v lo hi other = not (within v lo hi) || (auto cfg && above v (minus other (deadBand cfg)))
 
-abbrev pub barsCoolLimit : Config → Hundredths → Hundredths → Hundredths → Hundredths → Bool
-barsCoolLimit cfg v lo hi beside = not (within v lo hi) || (auto cfg && below v (plus beside (deadBand cfg)))
+abbrev pub coolLimitRefused : Config → Hundredths → Hundredths → Hundredths → Hundredths → Bool
+coolLimitRefused cfg v lo hi other = not (within v lo hi) || (auto cfg && below v (plus other (deadBand cfg)))
 
 -- a minimum may not exceed its maximum or leave ABS
-abbrev pub barsMinHeat : Config → Settings → Hundredths → Bool
-barsMinHeat cfg s v = barsHeatLimit cfg v (cfg .absminheat) (s .maxheat) (minCoolSetpoint cfg s)
+abbrev pub minHeatRefused : Config → Settings → Hundredths → Bool
+minHeatRefused cfg s v = heatLimitRefused cfg v (cfg .absminheat) (s .maxheat) (minCoolSetpoint cfg s)
 
 abbrev pub minHeatRows : Config → Controller → Hundredths → List Row
-minHeatRows cfg r v = limitWriteRows cfg r 0x15 (barsMinHeat cfg (r .attrs .settings) v)
+minHeatRows cfg r v = limitWriteRows cfg r 0x15 (minHeatRefused cfg (r .attrs .settings) v)
 
 unfoldable pub writeMinHeatSetpointLimit : Config → Controller → Readings → Hundredths → Outcome
 writeMinHeatSetpointLimit cfg r d v = limitWrite cfg r d (minHeatRows cfg r v) (limitStored cfg r (setMinHeat (r .attrs) v) 0x15) (pullHeating cfg d)
 
 -- nor a maximum the reverse
-abbrev pub barsMaxHeat : Config → Settings → Hundredths → Bool
-barsMaxHeat cfg s v = barsHeatLimit cfg v (s .minheat) (cfg .absmaxheat) (maxCoolSetpoint cfg s)
+abbrev pub maxHeatRefused : Config → Settings → Hundredths → Bool
+maxHeatRefused cfg s v = heatLimitRefused cfg v (s .minheat) (cfg .absmaxheat) (maxCoolSetpoint cfg s)
 
 abbrev pub maxHeatRows : Config → Controller → Hundredths → List Row
-maxHeatRows cfg r v = limitWriteRows cfg r 0x16 (barsMaxHeat cfg (r .attrs .settings) v)
+maxHeatRows cfg r v = limitWriteRows cfg r 0x16 (maxHeatRefused cfg (r .attrs .settings) v)
 
 unfoldable pub writeMaxHeatSetpointLimit : Config → Controller → Readings → Hundredths → Outcome
 writeMaxHeatSetpointLimit cfg r d v = limitWrite cfg r d (maxHeatRows cfg r v) (limitStored cfg r (setMaxHeat (r .attrs) v) 0x16) (pullHeating cfg d)
 
-abbrev pub barsMinCool : Config → Settings → Hundredths → Bool
-barsMinCool cfg s v = barsCoolLimit cfg v (cfg .absmincool) (s .maxcool) (minHeatSetpoint cfg s)
+abbrev pub minCoolRefused : Config → Settings → Hundredths → Bool
+minCoolRefused cfg s v = coolLimitRefused cfg v (cfg .absmincool) (s .maxcool) (minHeatSetpoint cfg s)
 
 abbrev pub minCoolRows : Config → Controller → Hundredths → List Row
-minCoolRows cfg r v = limitWriteRows cfg r 0x17 (barsMinCool cfg (r .attrs .settings) v)
+minCoolRows cfg r v = limitWriteRows cfg r 0x17 (minCoolRefused cfg (r .attrs .settings) v)
 
 unfoldable pub writeMinCoolSetpointLimit : Config → Controller → Readings → Hundredths → Outcome
 writeMinCoolSetpointLimit cfg r d v = limitWrite cfg r d (minCoolRows cfg r v) (limitStored cfg r (setMinCool (r .attrs) v) 0x17) (pullCooling cfg d)
 
-abbrev pub barsMaxCool : Config → Settings → Hundredths → Bool
-barsMaxCool cfg s v = barsCoolLimit cfg v (s .mincool) (cfg .absmaxcool) (maxHeatSetpoint cfg s)
+abbrev pub maxCoolRefused : Config → Settings → Hundredths → Bool
+maxCoolRefused cfg s v = coolLimitRefused cfg v (s .mincool) (cfg .absmaxcool) (maxHeatSetpoint cfg s)
 
 abbrev pub maxCoolRows : Config → Controller → Hundredths → List Row
-maxCoolRows cfg r v = limitWriteRows cfg r 0x18 (barsMaxCool cfg (r .attrs .settings) v)
+maxCoolRows cfg r v = limitWriteRows cfg r 0x18 (maxCoolRefused cfg (r .attrs .settings) v)
 
 unfoldable pub writeMaxCoolSetpointLimit : Config → Controller → Readings → Hundredths → Outcome
 writeMaxCoolSetpointLimit cfg r d v = limitWrite cfg r d (maxCoolRows cfg r v) (limitStored cfg r (setMaxCool (r .attrs) v) 0x18) (pullCooling cfg d)

@@ -2,19 +2,25 @@
 ghost use mathlib.Core.Path.{_≡_};
 ghost use Rattle.model.specs.Modes.{sequenceHeats, sequenceCools, isSupportedSystemMode};
 use records::Config;
+use records::control_sequence;
+use records::system_mode;
 
 pub fn sequence_heats(cfg: Config) -> bool
     ensures { λ r. ⌜ r ≡ sequenceHeats cfg ⌝ }
 {
     let s = cfg.sequence;
-    ((s == 2) | (s == 3)) | ((s == 4) | (s == 5))
+    ((s == control_sequence::HEATING_ONLY) | (s == control_sequence::HEATING_WITH_REHEAT))
+        | ((s == control_sequence::COOLING_AND_HEATING)
+            | (s == control_sequence::COOLING_AND_HEATING_WITH_REHEAT))
 }
 
 pub fn sequence_cools(cfg: Config) -> bool
     ensures { λ r. ⌜ r ≡ sequenceCools cfg ⌝ }
 {
     let s = cfg.sequence;
-    ((s == 0) | (s == 1)) | ((s == 4) | (s == 5))
+    ((s == control_sequence::COOLING_ONLY) | (s == control_sequence::COOLING_WITH_REHEAT))
+        | ((s == control_sequence::COOLING_AND_HEATING)
+            | (s == control_sequence::COOLING_AND_HEATING_WITH_REHEAT))
 }
 
 // Off 0, Auto 1, Cool 3, Heat 4; all others never.
@@ -24,5 +30,6 @@ pub fn is_supported_system_mode(cfg: Config, mode: u8) -> bool
     let auto = features::auto(cfg);
     let cools = sequence_cools(cfg);
     let heats = sequence_heats(cfg);
-    ((mode == 0) | ((mode == 1) & auto)) | (((mode == 3) & cools) | ((mode == 4) & heats))
+    ((mode == system_mode::OFF) | ((mode == system_mode::AUTO) & auto))
+        | (((mode == system_mode::COOL) & cools) | ((mode == system_mode::HEAT) & heats))
 }

@@ -6,19 +6,51 @@ ghost use Rattle.model.specs.Sweep.{noticeTable, rowNotices, tableNotices};
 use records::Config;
 use records::NoticeRow;
 use records::Notices;
+use records::attribute_id;
+use records::pending_bit;
 
 // Pending bit to attribute code, in ascending order of the attributes; the two of the relays share a bit.
 pub const PENDING_ATTRS: [NoticeRow; 10] = [
-    NoticeRow { bit: 0, code: 0x00 },
-    NoticeRow { bit: 2, code: 0x11 },
-    NoticeRow { bit: 1, code: 0x12 },
-    NoticeRow { bit: 4, code: 0x15 },
-    NoticeRow { bit: 5, code: 0x16 },
-    NoticeRow { bit: 6, code: 0x17 },
-    NoticeRow { bit: 7, code: 0x18 },
-    NoticeRow { bit: 3, code: 0x1C },
-    NoticeRow { bit: 8, code: 0x1E },
-    NoticeRow { bit: 8, code: 0x29 },
+    NoticeRow {
+        bit: pending_bit::LOCAL_TEMPERATURE,
+        code: attribute_id::LOCAL_TEMPERATURE,
+    },
+    NoticeRow {
+        bit: pending_bit::OCCUPIED_COOLING_SETPOINT,
+        code: attribute_id::OCCUPIED_COOLING_SETPOINT,
+    },
+    NoticeRow {
+        bit: pending_bit::OCCUPIED_HEATING_SETPOINT,
+        code: attribute_id::OCCUPIED_HEATING_SETPOINT,
+    },
+    NoticeRow {
+        bit: pending_bit::MIN_HEAT_LIMIT,
+        code: attribute_id::MIN_HEAT_SETPOINT_LIMIT,
+    },
+    NoticeRow {
+        bit: pending_bit::MAX_HEAT_LIMIT,
+        code: attribute_id::MAX_HEAT_SETPOINT_LIMIT,
+    },
+    NoticeRow {
+        bit: pending_bit::MIN_COOL_LIMIT,
+        code: attribute_id::MIN_COOL_SETPOINT_LIMIT,
+    },
+    NoticeRow {
+        bit: pending_bit::MAX_COOL_LIMIT,
+        code: attribute_id::MAX_COOL_SETPOINT_LIMIT,
+    },
+    NoticeRow {
+        bit: pending_bit::SYSTEM_MODE,
+        code: attribute_id::SYSTEM_MODE,
+    },
+    NoticeRow {
+        bit: pending_bit::RUNNING_STATE,
+        code: attribute_id::THERMOSTAT_RUNNING_MODE,
+    },
+    NoticeRow {
+        bit: pending_bit::RUNNING_STATE,
+        code: attribute_id::THERMOSTAT_RUNNING_STATE,
+    },
 ];
 
 pub fn is_pending(pending: u16, bit: u16) -> bool

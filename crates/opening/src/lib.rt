@@ -7,6 +7,7 @@ use records::Attrs;
 use records::Config;
 use records::Controller;
 use records::Settings;
+use records::answer_number;
 
 // Validation, then repair of the given settings in a record otherwise blank.
 pub fn open(cfg: Config, settings: Settings) -> Answer
@@ -14,7 +15,7 @@ pub fn open(cfg: Config, settings: Settings) -> Answer
 {
     let n = validation::validate(cfg);
     let blank = Controller::blank();
-    if n != 0 {
+    if n != answer_number::DONE {
         return orders::quiet_answer(n, blank);
     }
     let a = Attrs {

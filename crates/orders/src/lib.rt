@@ -11,6 +11,7 @@ use records::Moment;
 use records::Notices;
 use records::Order;
 use records::Settings;
+use records::pending_mask;
 
 pub fn order_of(s: Settings) -> Order
     ensures { λ r. ⌜ r ≡ orderOf s ⌝ }
@@ -32,7 +33,7 @@ pub fn ask_sweep(cfg: Config, r: Controller) -> Controller
 {
     if emits_any(cfg) {
         let mut q = r;
-        q.pending = r.pending | 0x200;
+        q.pending = r.pending | pending_mask::EVENT_SWEEP;
         return q;
     }
     r

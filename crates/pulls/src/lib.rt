@@ -6,6 +6,7 @@ use records::Config;
 use records::Controller;
 use records::Notices;
 use records::Readings;
+use records::change_source;
 use stages::Stage;
 
 // A setpoint outside the limits in force is stored at the nearest one.
@@ -17,7 +18,7 @@ pub fn pull_heating(cfg: Config, r: Controller, n: Notices, d: Readings) -> Stag
         return Stage { rec: r, notices: n };
     }
     let v = clamps::clamp_heat_setpoint(cfg, s, units::widen(s.heating));
-    stores::store_heating_setpoint(cfg, r, n, d, attribution::EXTERNAL, v)
+    stores::store_heating_setpoint(cfg, r, n, d, change_source::EXTERNAL, v)
 }
 
 pub fn pull_cooling(cfg: Config, r: Controller, n: Notices, d: Readings) -> Stage
@@ -28,5 +29,5 @@ pub fn pull_cooling(cfg: Config, r: Controller, n: Notices, d: Readings) -> Stag
         return Stage { rec: r, notices: n };
     }
     let v = clamps::clamp_cool_setpoint(cfg, s, units::widen(s.cooling));
-    stores::store_cooling_setpoint(cfg, r, n, d, attribution::EXTERNAL, v)
+    stores::store_cooling_setpoint(cfg, r, n, d, change_source::EXTERNAL, v)
 }

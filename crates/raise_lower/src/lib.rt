@@ -7,6 +7,8 @@ use records::Config;
 use records::Controller;
 use records::Notices;
 use records::Readings;
+use records::answer_number;
+use records::raise_lower_mode;
 use units::Tenths;
 
 fn names_absent_side(cfg: Config, mode: u8) -> bool
@@ -14,7 +16,7 @@ fn names_absent_side(cfg: Config, mode: u8) -> bool
 {
     let heats = features::heats(cfg);
     let cools = features::cools(cfg);
-    ((mode == 0) & !heats) | ((mode == 1) & !cools)
+    ((mode == raise_lower_mode::HEAT) & !heats) | ((mode == raise_lower_mode::COOL) & !cools)
 }
 
 // It arms first, so 25 and 23 keep the newly armed clock.
@@ -28,14 +30,14 @@ pub fn raise_lower_setpoint(
     ensures { λ q. ⌜ q ≡ answer (spec.raiseLowerSetpoint cfg r d mode amount) ⌝ }
 {
     if !sound::is_sound(cfg, r) {
-        return orders::quiet_answer(28, r);
+        return orders::quiet_answer(answer_number::UNSOUND_RECORD, r);
     }
     let a = attribution::arm_clock(cfg, d, r);
-    if 2 < mode {
-        return orders::quiet_answer(25, a);
+    if raise_lower_mode::BOTH < mode {
+        return orders::quiet_answer(answer_number::UNKNOWN_RAISE_LOWER_MODE, a);
     }
     if names_absent_side(cfg, mode) {
-        return orders::quiet_answer(23, a);
+        return orders::quiet_answer(answer_number::ABSENT_SIDE, a);
     }
     let s = raise_sides::raise_sides(cfg, a, Notices::none(), d, mode, amount);
     stages::apply(cfg, d, s)

@@ -9,6 +9,8 @@ use records::Config;
 use records::Controller;
 use records::Notices;
 use records::Readings;
+use records::change_source;
+use records::raise_lower_mode;
 use stages::Stage;
 use units::Hundredths;
 use units::Tenths;
@@ -30,7 +32,7 @@ fn raise_heating(cfg: Config, r: Controller, n: Notices, d: Readings, amount: Te
         limits::min_heat_setpoint(cfg, s),
         limits::max_heat_setpoint(cfg, s),
     );
-    stores::store_heating_setpoint(cfg, r, n, d, attribution::EXTERNAL, v)
+    stores::store_heating_setpoint(cfg, r, n, d, change_source::EXTERNAL, v)
 }
 
 fn raise_cooling(cfg: Config, r: Controller, n: Notices, d: Readings, amount: Tenths) -> Stage
@@ -43,7 +45,7 @@ fn raise_cooling(cfg: Config, r: Controller, n: Notices, d: Readings, amount: Te
         limits::min_cool_setpoint(cfg, s),
         limits::max_cool_setpoint(cfg, s),
     );
-    stores::store_cooling_setpoint(cfg, r, n, d, attribution::EXTERNAL, v)
+    stores::store_cooling_setpoint(cfg, r, n, d, change_source::EXTERNAL, v)
 }
 
 fn raise_heating_if(
@@ -101,10 +103,10 @@ pub fn raise_sides(
 ) -> Stage
     ensures { λ q. ⌜ q ≡ staged n (spec.raiseSides cfg d mode amount r) ⌝ }
 {
-    if mode == 0 {
+    if mode == raise_lower_mode::HEAT {
         return raise_heating(cfg, r, n, d, amount);
     }
-    if mode == 1 {
+    if mode == raise_lower_mode::COOL {
         return raise_cooling(cfg, r, n, d, amount);
     }
     raise_both(cfg, r, n, d, amount)

@@ -9,6 +9,7 @@ use records::Controller;
 use records::Events;
 use records::Moment;
 use records::Notices;
+use records::answer_number;
 
 // No notices, whatever the relays do, and a plant order.
 pub fn repair_record(cfg: Config, r: Controller, a: Attrs) -> Answer
@@ -22,7 +23,7 @@ pub fn repair_record(cfg: Config, r: Controller, a: Attrs) -> Answer
     let n = Notices::none();
     let e = Events::none();
     Answer {
-        number: 0,
+        number: answer_number::DONE,
         rec: q,
         order: o,
         notices: n,

@@ -5,6 +5,7 @@ ghost use Rattle.model.specs.Served.{auto, hasHeatLimits};
 ghost use Rattle.model.specs.Repair as spec;
 use records::Attrs;
 use records::Config;
+use records::system_mode;
 
 fn clamp_min_heat(cfg: Config, a: Attrs) -> Attrs
     ensures { λ r. ⌜ r ≡ spec.clampMinHeat cfg a ⌝ }
@@ -137,7 +138,7 @@ fn repair_mode(cfg: Config, a: Attrs) -> Attrs
         return a;
     }
     let mut s = a.settings;
-    s.mode = 0;
+    s.mode = system_mode::OFF;
     attrs::update_attrs(a, s)
 }
 

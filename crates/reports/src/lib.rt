@@ -8,6 +8,7 @@ use records::Event;
 use records::Events;
 use records::Moment;
 use records::Snapshot;
+use records::system_mode;
 
 fn emit_if(es: Events, t: bool, e: Event) -> Events
     ensures { λ r. ⌜ r ≡ emitAll es (onlyIf t (e ∷ [])) ⌝ }
@@ -27,20 +28,32 @@ pub fn events_of(cfg: Config, old: Snapshot, new: Snapshot, last: Moment, now: u
     let newh = new.heating;
     let oldc = old.cooling;
     let newc = new.cooling;
-    let told = event_conditions::judge(cfg, old, new, last, now);
+    let emitted = event_conditions::emitted_events(cfg, old, new, last, now);
     let e0 = Events::none();
-    let e1 = emit_if(e0, told.mode, Event::SystemModeChange(old.mode, new.mode));
-    let e2 = emit_if(e1, told.temperature, Event::LocalTemperatureChange(t));
-    let e3 = emit_if(e2, told.cooling, Event::SetpointChange(3, oldc, newc));
-    let e4 = emit_if(e3, told.heating, Event::SetpointChange(4, oldh, newh));
+    let e1 = emit_if(
+        e0,
+        emitted.mode,
+        Event::SystemModeChange(old.mode, new.mode),
+    );
+    let e2 = emit_if(e1, emitted.temperature, Event::LocalTemperatureChange(t));
+    let e3 = emit_if(
+        e2,
+        emitted.cooling,
+        Event::SetpointChange(system_mode::COOL, oldc, newc),
+    );
+    let e4 = emit_if(
+        e3,
+        emitted.heating,
+        Event::SetpointChange(system_mode::HEAT, oldh, newh),
+    );
     let e5 = emit_if(
         e4,
-        told.relays,
+        emitted.relays,
         Event::RunningStateChange(old.relays, new.relays),
     );
     emit_if(
         e5,
-        told.runningmode,
+        emitted.runningmode,
         Event::RunningModeChange(old.runningmode, new.runningmode),
     )
 }

@@ -3,6 +3,7 @@ ghost use mathlib.Core.Path.{_≡_};
 ghost use mathlib.Core.Bool.{_&&_};
 ghost use Rattle.model.specs.Served as spec;
 use records::Config;
+use records::attribute_id;
 
 // The bit of a code in a set.
 pub fn listed(set: u64, code: u16) -> bool
@@ -43,10 +44,10 @@ pub fn has_heat_limits(cfg: Config) -> bool
     ensures { λ r. ⌜ r ≡ spec.hasHeatLimits cfg ⌝ }
 {
     all_four(
-        serves(cfg, 0x03),
-        serves(cfg, 0x04),
-        serves(cfg, 0x15),
-        serves(cfg, 0x16),
+        serves(cfg, attribute_id::ABS_MIN_HEAT_SETPOINT_LIMIT),
+        serves(cfg, attribute_id::ABS_MAX_HEAT_SETPOINT_LIMIT),
+        serves(cfg, attribute_id::MIN_HEAT_SETPOINT_LIMIT),
+        serves(cfg, attribute_id::MAX_HEAT_SETPOINT_LIMIT),
     )
 }
 
@@ -54,9 +55,9 @@ pub fn has_cool_limits(cfg: Config) -> bool
     ensures { λ r. ⌜ r ≡ spec.hasCoolLimits cfg ⌝ }
 {
     all_four(
-        serves(cfg, 0x05),
-        serves(cfg, 0x06),
-        serves(cfg, 0x17),
-        serves(cfg, 0x18),
+        serves(cfg, attribute_id::ABS_MIN_COOL_SETPOINT_LIMIT),
+        serves(cfg, attribute_id::ABS_MAX_COOL_SETPOINT_LIMIT),
+        serves(cfg, attribute_id::MIN_COOL_SETPOINT_LIMIT),
+        serves(cfg, attribute_id::MAX_COOL_SETPOINT_LIMIT),
     )
 }

@@ -1,4 +1,4 @@
--- The lines that a match's last arm takes, told by the numbers of their kinds. Assumes nothing.
+-- The lines that a match's last arm takes, by the numbers of their kinds. Assumes nothing.
 use mathlib.Core.Path.{_≡_, refl}
 use mathlib.Core.List.{List, _∷_, []}
 use Prim.Native.Nat.{ℕ}

@@ -74,7 +74,7 @@ fn write_answer(page: &mut Page, at: usize, a: Answer, with_deadline: bool) -> u
     finish(page, b, with_deadline, m)
 }
 
-// A line that cannot be read is told by its number.
+// A line that cannot be read answers `error` and its number.
 fn write_error(page: &mut Page, at: usize, line: u64) -> usize
     requires { ⌜ Room at 64 ⌝ }
     ensures { λ r. ⌜ Within at 64 r ⌝ }

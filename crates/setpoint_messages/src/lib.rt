@@ -5,13 +5,9 @@ ghost use Rattle.model.specs.Messages as spec;
 use records::Answer;
 use records::Config;
 use records::Controller;
+use records::answer_number;
+use records::pending_mask;
 use units::Hundredths;
-
-const PENDING_OCCUPIED_HEATING_SETPOINT: u16 = 0x002;
-
-const PENDING_OCCUPIED_COOLING_SETPOINT: u16 = 0x004;
-
-const PENDING_SYSTEM_MODE: u16 = 0x008;
 
 pub fn heating_message(cfg: Config, r: Controller, v: Hundredths) -> Answer
     ensures { λ q. ⌜ q ≡ answer (spec.heatingMessage cfg r v) ⌝ }
@@ -21,7 +17,7 @@ pub fn heating_message(cfg: Config, r: Controller, v: Hundredths) -> Answer
     s.heating = w;
     let mut q = r;
     q.attrs = attrs::update_attrs(r.attrs, s);
-    pending::plain_message(q, PENDING_OCCUPIED_HEATING_SETPOINT)
+    pending::plain_message(q, pending_mask::OCCUPIED_HEATING_SETPOINT)
 }
 
 pub fn cooling_message(cfg: Config, r: Controller, v: Hundredths) -> Answer
@@ -32,18 +28,18 @@ pub fn cooling_message(cfg: Config, r: Controller, v: Hundredths) -> Answer
     s.cooling = w;
     let mut q = r;
     q.attrs = attrs::update_attrs(r.attrs, s);
-    pending::plain_message(q, PENDING_OCCUPIED_COOLING_SETPOINT)
+    pending::plain_message(q, pending_mask::OCCUPIED_COOLING_SETPOINT)
 }
 
 pub fn mode_message(cfg: Config, r: Controller, v: u8) -> Answer
     ensures { λ q. ⌜ q ≡ answer (spec.modeMessage cfg r v) ⌝ }
 {
     if !modes::is_supported_system_mode(cfg, v) {
-        return orders::quiet_answer(26, r);
+        return orders::quiet_answer(answer_number::UNSUPPORTED_MODE, r);
     }
     let mut s = r.attrs.settings;
     s.mode = v;
     let mut q = r;
     q.attrs = attrs::update_attrs(r.attrs, s);
-    pending::plain_message(q, PENDING_SYSTEM_MODE)
+    pending::plain_message(q, pending_mask::SYSTEM_MODE)
 }

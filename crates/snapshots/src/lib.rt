@@ -15,7 +15,7 @@ pub fn snapshot(cfg: Config, d: Readings, r: Controller) -> Snapshot
     let reported = temperature::reported_local_temperature(cfg, t);
     let relays = relays::running_state(cfg, d.relaysbefore);
     let mode = relays::running_mode(relays);
-    Snapshot::first(reported, r.attrs.settings, relays, mode)
+    Snapshot::current(reported, r.attrs.settings, relays, mode)
 }
 
 fn is_same_temperature(a: Temperature, b: Temperature) -> bool

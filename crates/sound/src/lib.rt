@@ -5,6 +5,7 @@ use records::Config;
 use records::Controller;
 use records::Moment;
 use records::Settings;
+use records::answer_number;
 
 fn sound_heat_limits(cfg: Config, s: Settings) -> bool
     ensures { λ r. ⌜ r ≡ spec.soundHeatLimits cfg s ⌝ }
@@ -80,5 +81,5 @@ pub fn is_sound(cfg: Config, r: Controller) -> bool
     let events = r.events;
     let last = events.last;
     let time = sound_last(last);
-    (n == 0) & (settings & time)
+    (n == answer_number::DONE) & (settings & time)
 }

@@ -15,6 +15,8 @@ use records::Events;
 use records::Moment;
 use records::Notices;
 use records::Readings;
+use records::answer_number;
+use records::attribute_id;
 
 // A record under way, with the notices so far.
 pub struct Stage {
@@ -25,9 +27,9 @@ pub struct Stage {
 pub fn notify_source_attrs(cfg: Config, n: Notices) -> Notices
     ensures { λ r. ⌜ r ≡ pushAll n (spec.sourceNotices cfg) ⌝ }
 {
-    let a = answers::notify(cfg, n, 0x30);
-    let b = answers::notify(cfg, a, 0x31);
-    answers::notify(cfg, b, 0x32)
+    let a = answers::notify(cfg, n, attribute_id::SETPOINT_CHANGE_SOURCE);
+    let b = answers::notify(cfg, a, attribute_id::SETPOINT_CHANGE_AMOUNT);
+    answers::notify(cfg, b, attribute_id::SETPOINT_CHANGE_SOURCE_TIMESTAMP)
 }
 
 // The notices of a stored setpoint that differs.
@@ -52,7 +54,11 @@ fn notify_relays(cfg: Config, n: Notices, d: Readings) -> Notices
     ensures { λ r. ⌜ r ≡ pushAll n (spec.relayNotices cfg d) ⌝ }
 {
     if have_relays_moved(cfg, d) {
-        return answers::notify(cfg, answers::notify(cfg, n, 0x29), 0x1E);
+        return answers::notify(
+            cfg,
+            answers::notify(cfg, n, attribute_id::THERMOSTAT_RUNNING_STATE),
+            attribute_id::THERMOSTAT_RUNNING_MODE,
+        );
     }
     n
 }
@@ -66,7 +72,7 @@ pub fn apply(cfg: Config, d: Readings, s: Stage) -> Answer
     let n = notify_relays(cfg, s.notices, d);
     let e = Events::none();
     Answer {
-        number: 0,
+        number: answer_number::DONE,
         rec: q,
         order: o,
         notices: n,

@@ -26,5 +26,5 @@ pub stored : (cfg : Config) (r : Controller) (n : Notices) (d : Readings) (sourc
 stored cfg r n d source old v l l' {u = u} hk hx hc ht hp hm hu =
     let changed = hc ∙ ap (λ (t : Bool). recordedIf (not t) d source old v (r .change)) ht in
     let kept = hk ∙ ap₂ (λ (x : Attrs) (c : SetpointChangeState). claimSetpoints cfg (withChange (withAttrs r x) c)) hx changed in
-    let told = hp ∙ ap (λ (m : Notices). pushAll m (onlyIf (not u) l')) hm ∙ push-all-append n _ _ ∙ ap₂ (λ (t u : Bool). pushAll n (onlyIf (not t) l ++ onlyIf (not u) l')) ht hu in
-    ap₂ (λ (k : Controller) (p : Notices). record { rec = k; notices = p }) kept told
+    let noticed-all = hp ∙ ap (λ (m : Notices). pushAll m (onlyIf (not u) l')) hm ∙ push-all-append n _ _ ∙ ap₂ (λ (t u : Bool). pushAll n (onlyIf (not t) l ++ onlyIf (not u) l')) ht hu in
+    ap₂ (λ (k : Controller) (p : Notices). record { rec = k; notices = p }) kept noticed-all

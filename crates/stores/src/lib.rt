@@ -7,6 +7,7 @@ use records::Controller;
 use records::Notices;
 use records::Readings;
 use records::SetpointChangeState;
+use records::attribute_id;
 use stages::Stage;
 use units::Hundredths;
 
@@ -28,7 +29,7 @@ fn record_if(
     c
 }
 
-// The source is the writer's; the claim comes last, once the gap has had its say.
+// The source is the writer's; the claim comes last, after the gap is kept.
 pub fn store_heating_setpoint(
     cfg: Config,
     r: Controller,
@@ -42,19 +43,19 @@ pub fn store_heating_setpoint(
     let s = r.attrs.settings;
     let old = s.heating;
     let moved = !units::same(old, v);
-    let beside = gaps::cooling_beside(cfg, s, v);
-    let pushed = !units::same(s.cooling, beside);
+    let other = gaps::cooling_with_gap(cfg, s, v);
+    let pushed = !units::same(s.cooling, other);
     let c = r.change;
     let mut t = s;
     t.heating = v;
     let a = attrs::update_attrs(r.attrs, t);
-    t.cooling = beside;
+    t.cooling = other;
     let mut q = r;
     q.attrs = attrs::update_attrs(a, t);
     q.change = record_if(moved, d, source, old, v, c);
     let k = claims::claim_setpoints(cfg, q);
-    let m = stages::notify_change(cfg, n, moved, 0x12);
-    let p = answers::notify_if(cfg, m, pushed, 0x11);
+    let m = stages::notify_change(cfg, n, moved, attribute_id::OCCUPIED_HEATING_SETPOINT);
+    let p = answers::notify_if(cfg, m, pushed, attribute_id::OCCUPIED_COOLING_SETPOINT);
     Stage { rec: k, notices: p }
 }
 
@@ -71,18 +72,18 @@ pub fn store_cooling_setpoint(
     let s = r.attrs.settings;
     let old = s.cooling;
     let moved = !units::same(old, v);
-    let beside = gaps::heating_beside(cfg, s, v);
-    let pushed = !units::same(s.heating, beside);
+    let other = gaps::heating_with_gap(cfg, s, v);
+    let pushed = !units::same(s.heating, other);
     let c = r.change;
     let mut t = s;
     t.cooling = v;
     let a = attrs::update_attrs(r.attrs, t);
-    t.heating = beside;
+    t.heating = other;
     let mut q = r;
     q.attrs = attrs::update_attrs(a, t);
     q.change = record_if(moved, d, source, old, v, c);
     let k = claims::claim_setpoints(cfg, q);
-    let m = stages::notify_change(cfg, n, moved, 0x11);
-    let p = answers::notify_if(cfg, m, pushed, 0x12);
+    let m = stages::notify_change(cfg, n, moved, attribute_id::OCCUPIED_COOLING_SETPOINT);
+    let p = answers::notify_if(cfg, m, pushed, attribute_id::OCCUPIED_HEATING_SETPOINT);
     Stage { rec: k, notices: p }
 }

@@ -15,6 +15,8 @@ use records::Moment;
 use records::Notices;
 use records::Order;
 use records::Readings;
+use records::answer_number;
+use records::pending_bit;
 
 fn sweep_events(cfg: Config, d: Readings, n: Notices, r: Controller) -> Answer
     ensures { λ q. ⌜ q ≡ sweptWith n (spec.sweepEvents cfg d [] r) ⌝ }
@@ -31,7 +33,7 @@ fn answer_notices(r: Controller, n: Notices) -> Answer
 {
     let e = Events::none();
     Answer {
-        number: 0,
+        number: answer_number::DONE,
         rec: r,
         order: Order::NoOrder,
         notices: n,
@@ -53,11 +55,11 @@ fn sweep_pending(cfg: Config, d: Readings, r: Controller) -> Answer
     ensures { λ q. ⌜ q ≡ answer (spec.swept cfg d r) ⌝ }
 {
     if r.pending == 0 {
-        return orders::quiet_answer(0, r);
+        return orders::quiet_answer(answer_number::DONE, r);
     }
     let n = notices::notify_pending(cfg, r.pending);
     let q = with_pending(r, 0);
-    if notices::is_pending(r.pending, 9) {
+    if notices::is_pending(r.pending, pending_bit::EVENT_SWEEP) {
         return sweep_events(cfg, d, n, q);
     }
     answer_notices(q, n)
@@ -67,10 +69,10 @@ pub fn sweep(cfg: Config, r: Controller, d: Readings) -> Answer
     ensures { λ q. ⌜ q ≡ answer (spec.sweep cfg r d) ⌝ }
 {
     if !sound::is_sound(cfg, r) {
-        return orders::quiet_answer(28, r);
+        return orders::quiet_answer(answer_number::UNSOUND_RECORD, r);
     }
     if Controller::LAST_CLOCK < d.clock {
-        return orders::quiet_answer(27, r);
+        return orders::quiet_answer(answer_number::CLOCK_TOO_LATE, r);
     }
     sweep_pending(cfg, d, r)
 }

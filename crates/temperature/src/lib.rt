@@ -75,7 +75,7 @@ pub fn local_temperature_event_due(
 pub fn reported_local_temperature(cfg: Config, t: Temperature) -> Temperature
     ensures { λ r. ⌜ r ≡ reportedTemperature cfg t ⌝ }
 {
-    if features::hides_temperature(cfg) {
+    if features::local_temperature_not_exposed(cfg) {
         return Temperature::NoReading;
     }
     t

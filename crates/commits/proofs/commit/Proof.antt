@@ -16,4 +16,4 @@ commit-spec =
     (λ c κs. tt)
     (λ c κs. tt)
     (λ c κs. tt)
-    (λ c. simp (c .pick-last .ensures, c .before .pick-byte2 .ensures, c .before .before .pick-relays .ensures, c .before .before .before .pick-byte .ensures, c .before .before .before .before .pick-setpoint2 .ensures, c .before .before .before .before .before .pick-setpoint .ensures, c .before .before .before .before .before .before .pick-temperature .ensures, c .before .before .before .before .before .before .before .emits .ensures, c .before .before .before .before .before .before .before .before .judge .ensures)))
+    (λ c. simp (c .pick-last .ensures, c .before .pick-byte2 .ensures, c .before .before .pick-relays .ensures, c .before .before .before .pick-byte .ensures, c .before .before .before .before .pick-setpoint2 .ensures, c .before .before .before .before .before .pick-setpoint .ensures, c .before .before .before .before .before .before .pick-temperature .ensures, c .before .before .before .before .before .before .before .emits .ensures, c .before .before .before .before .before .before .before .before .emitted-events .ensures)))

@@ -1,5 +1,5 @@
 use mathlib.Core.Bool.{true}
-use Rattle.model.specs.Writes.{writeMaxHeatSetpointLimit, pullSide, barsHeatLimit}
+use Rattle.model.specs.Writes.{writeMaxHeatSetpointLimit, pullSide, heatLimitRefused}
 use Rattle.limit_stores.proofs.Given.{given}
 use Rattle.heat_limit_writes.proofs.write_max_heat_setpoint_limit.Statement.{statement}
 use Rattle.heat_limit_writes.proofs.write_max_heat_setpoint_limit.Tie as tie
@@ -16,5 +16,5 @@ write-max-heat-setpoint-limit-spec =
     (λ c.
     let b = c .before .before in
     let a = b .before .before .before .args in
-    given true (a .cfg) (a .r) (a .d) 0x16 (barsHeatLimit (a .cfg) (a .v) (a .r .attrs .settings .minheat) (a .cfg .absmaxheat))
-    (c .write-limit .ensures) (b .bars-heat-limit .ensures) (b .before .max-cool-setpoint .ensures) (c .before .update-attrs .ensures)))
+    given true (a .cfg) (a .r) (a .d) 0x16 (heatLimitRefused (a .cfg) (a .v) (a .r .attrs .settings .minheat) (a .cfg .absmaxheat))
+    (c .write-limit .ensures) (b .is-heat-limit-refused .ensures) (b .before .max-cool-setpoint .ensures) (c .before .update-attrs .ensures)))

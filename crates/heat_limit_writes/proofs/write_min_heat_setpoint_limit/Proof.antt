@@ -1,5 +1,5 @@
 use mathlib.Core.Bool.{true}
-use Rattle.model.specs.Writes.{writeMinHeatSetpointLimit, pullSide, barsHeatLimit}
+use Rattle.model.specs.Writes.{writeMinHeatSetpointLimit, pullSide, heatLimitRefused}
 use Rattle.limit_stores.proofs.Given.{given}
 use Rattle.heat_limit_writes.proofs.write_min_heat_setpoint_limit.Statement.{statement}
 use Rattle.heat_limit_writes.proofs.write_min_heat_setpoint_limit.Tie as tie
@@ -16,5 +16,5 @@ write-min-heat-setpoint-limit-spec =
     (λ c.
     let b = c .before .before in
     let a = b .before .before .before .args in
-    given true (a .cfg) (a .r) (a .d) 0x15 (barsHeatLimit (a .cfg) (a .v) (a .cfg .absminheat) (a .r .attrs .settings .maxheat))
-    (c .write-limit .ensures) (b .bars-heat-limit .ensures) (b .before .min-cool-setpoint .ensures) (c .before .update-attrs .ensures)))
+    given true (a .cfg) (a .r) (a .d) 0x15 (heatLimitRefused (a .cfg) (a .v) (a .cfg .absminheat) (a .r .attrs .settings .maxheat))
+    (c .write-limit .ensures) (b .is-heat-limit-refused .ensures) (b .before .min-cool-setpoint .ensures) (c .before .update-attrs .ensures)))

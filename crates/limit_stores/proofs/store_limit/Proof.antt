@@ -22,10 +22,10 @@ store-limit-spec =
     (λ c.
     let b = c .before .before in
     let a = b .before .before .args in
-    let told = noticed (a .cfg) (a .code) in
+    let notice = noticed (a .cfg) (a .code) in
     let pulled = pullSide (a .heat) (a .cfg) (a .d) (withAttrs (a .r) (a .a)) in
     ended (a .cfg) (a .d) (andThen (limitStored (a .cfg) (a .r) (a .a) (a .code)) (pullSide (a .heat) (a .cfg) (a .d))) (c .apply .ensures)
     (c .before .pull .ensures
-    ∙ ap (λ (n : Notices). staged n pulled) (b .notify .ensures ∙ ap (λ (n : Notices). pushAll n told) (b .before .none .ensures))
-    ∙ ap (λ (n : Notices). record { rec = pulled .rec; notices = n }) (push-all-append noNotices told (pulled .notices)))
+    ∙ ap (λ (n : Notices). staged n pulled) (b .notify .ensures ∙ ap (λ (n : Notices). pushAll n notice) (b .before .none .ensures))
+    ∙ ap (λ (n : Notices). record { rec = pulled .rec; notices = n }) (push-all-append noNotices notice (pulled .notices)))
     refl))

@@ -35,10 +35,10 @@ write-system-mode-spec =
     let g = b .before .before in
     let a = g .before .before .before .args in
     let m = unchanged (withAttrs (a .r) (setMode (a .r .attrs) (a .v))) in
-    let told = noticed (a .cfg) 0x1C in
+    let notice = noticed (a .cfg) 0x1C in
     let o = ended (a .cfg) (a .d) m {n = noNotices} (c .before .apply .ensures) (ap₂ (λ (x : Attrs) (n : Notices). record { rec = withAttrs (a .r) x; notices = n }) (c .before .before .update-attrs .ensures) (b .none .ensures ∙ sym (push-none noNotices))) refl in
     passed _ _ _ _ (ap not (sym (g .before .before .is-sound .ensures)) ∙ g .before .if1 .left)
     (passed _ _ _ _ (ap not (sym (g .is-supported-system-mode .ensures)) ∙ b .before .if2 .left)
     (done _ _
     (ap₂ (λ (o : Answer) (n : Notices). record { number = o .number; rec = o .rec; order = o .order; notices = n; events = o .events; deadline = o .deadline }) o
-    (c .notify .ensures ∙ ap (λ (o : Answer). pushAll (o .notices) told) o ∙ push-all-append noNotices (applied (a .cfg) (a .d) m .notices) told))))))
+    (c .notify .ensures ∙ ap (λ (o : Answer). pushAll (o .notices) notice) o ∙ push-all-append noNotices (applied (a .cfg) (a .d) m .notices) notice))))))

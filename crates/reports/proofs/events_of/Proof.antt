@@ -18,4 +18,4 @@ events-of-spec =
     (λ c κs. tt)
     (λ c κs. tt)
     (λ c κs. tt)
-    (λ c. simp (emit-all-append, append-assoc, c .emit-if6 .ensures, c .before .emit-if5 .ensures, c .before .before .emit-if4 .ensures, c .before .before .before .emit-if3 .ensures, c .before .before .before .before .emit-if2 .ensures, c .before .before .before .before .before .emit-if .ensures, c .before .before .before .before .before .before .none .ensures, c .before .before .before .before .before .before .before .judge .ensures)))
+    (λ c. simp (emit-all-append, append-assoc, c .emit-if6 .ensures, c .before .emit-if5 .ensures, c .before .before .emit-if4 .ensures, c .before .before .before .emit-if3 .ensures, c .before .before .before .before .emit-if2 .ensures, c .before .before .before .before .before .emit-if .ensures, c .before .before .before .before .before .before .none .ensures, c .before .before .before .before .before .before .before .emitted-events .ensures)))

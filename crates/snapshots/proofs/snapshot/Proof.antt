@@ -11,4 +11,4 @@ snapshot-spec =
     (λ c κs. tt)
     (λ c κs. tt)
     (λ c κs. tt)
-    (λ c. simp (c .first .ensures, c .before .running-mode .ensures, c .before .before .running-state .ensures, c .before .before .before .reported-local-temperature .ensures)))
+    (λ c. simp (c .current .ensures, c .before .running-mode .ensures, c .before .before .running-state .ensures, c .before .before .before .reported-local-temperature .ensures)))

@@ -4,4 +4,4 @@ use Rattle.starting.proofs.start.Tie as tie
 
 pub start-spec : {M : Type 1} → statement M
 unfolding started
-start-spec = tie.close (tie.spec (λ c κs. tt) (λ c κs. tt) (λ c. simp (c .claim-setpoints .ensures, c .before .before .snapshot .ensures)))
+start-spec = tie.close (tie.spec (λ c κs. tt) (λ c κs. tt) (λ c κs. tt) (λ c. simp (c .claim-setpoints .ensures, c .before .first-snapshot .ensures, c .before .before .snapshot .ensures)))

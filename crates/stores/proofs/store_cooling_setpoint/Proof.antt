@@ -31,9 +31,9 @@ store-cooling-setpoint-spec =
     let s = a .r .attrs .settings in
     stored (a .cfg) (a .r) (a .n) (a .d) (a .source) (s .cooling) (a .v) (noticed (a .cfg) 0x11 ++ sourceNotices (a .cfg)) (noticed (a .cfg) 0x12)
     (c .before .before .claim-setpoints .ensures)
-    (b .update-attrs2 .ensures ∙ ap₂ (λ (x : Attrs) (w : Hundredths). updated x (setHeating (setCooling (a .r .attrs) (a .v)) w .settings)) (b .before .update-attrs .ensures) (g .heating-beside .ensures))
+    (b .update-attrs2 .ensures ∙ ap₂ (λ (x : Attrs) (w : Hundredths). updated x (setHeating (setCooling (a .r .attrs) (a .v)) w .settings)) (b .before .update-attrs .ensures) (g .heating-with-gap .ensures))
     (c .before .before .before .record-if .ensures)
     (g .before .same .ensures)
     (c .notify-if .ensures)
     (c .before .notify-change .ensures)
-    (b .before .before .before .same2 .ensures ∙ ap (equal (s .heating)) (g .heating-beside .ensures))))
+    (b .before .before .before .same2 .ensures ∙ ap (equal (s .heating)) (g .heating-with-gap .ensures))))

@@ -31,9 +31,9 @@ store-heating-setpoint-spec =
     let s = a .r .attrs .settings in
     stored (a .cfg) (a .r) (a .n) (a .d) (a .source) (s .heating) (a .v) (noticed (a .cfg) 0x12 ++ sourceNotices (a .cfg)) (noticed (a .cfg) 0x11)
     (c .before .before .claim-setpoints .ensures)
-    (b .update-attrs2 .ensures ∙ ap₂ (λ (x : Attrs) (w : Hundredths). updated x (setCooling (setHeating (a .r .attrs) (a .v)) w .settings)) (b .before .update-attrs .ensures) (g .cooling-beside .ensures))
+    (b .update-attrs2 .ensures ∙ ap₂ (λ (x : Attrs) (w : Hundredths). updated x (setCooling (setHeating (a .r .attrs) (a .v)) w .settings)) (b .before .update-attrs .ensures) (g .cooling-with-gap .ensures))
     (c .before .before .before .record-if .ensures)
     (g .before .same .ensures)
     (c .notify-if .ensures)
     (c .before .notify-change .ensures)
-    (b .before .before .before .same2 .ensures ∙ ap (equal (s .cooling)) (g .cooling-beside .ensures))))
+    (b .before .before .before .same2 .ensures ∙ ap (equal (s .cooling)) (g .cooling-with-gap .ensures))))

@@ -9,5 +9,5 @@ reported-local-temperature-spec =
     tie.close
     (tie.spec
     (λ c κs. tt)
-    (λ c. simp (sym (c .before .hides-temperature .ensures) ∙ c .if1 .taken))
-    (λ c. simp (sym (c .before .hides-temperature .ensures) ∙ c .if1 .left)))
+    (λ c. simp (sym (c .before .local-temperature-not-exposed .ensures) ∙ c .if1 .taken))
+    (λ c. simp (sym (c .before .local-temperature-not-exposed .ensures) ∙ c .if1 .left)))

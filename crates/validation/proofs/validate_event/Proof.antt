@@ -12,4 +12,4 @@ validate-event-spec =
     (λ c κs. tt)
     (λ c κs. tt)
     (λ c κs. tt)
-    (λ c. simp (c .row3 .ensures, c .before .row2 .ensures, c .before .before .row .ensures, c .before .before .before .tells-events .ensures, c .before .before .before .before .emits .ensures)))
+    (λ c. simp (c .row3 .ensures, c .before .row2 .ensures, c .before .before .row .ensures, c .before .before .before .supports-events .ensures, c .before .before .before .before .emits .ensures)))

@@ -5,7 +5,7 @@ use native.Mathlib.Omega.{arith}
 use mathlib.Core.Path.{_≡_, _∙_, sym, ap, ap₂, subst}
 use lib.Dec.{eqb}
 use borrow.Author.Needs.{needs}
-use Rattle.load.specs.Totals.{turned, isSweep, loadOf, turnsOf, Roomy}
+use Rattle.load.specs.Totals.{turned, isSweep, loadOf, turnsOf, TotalsBounded}
 use Rattle.load.specs.declared.totals.Load.{Load}
 use Rattle.load.proofs.Bounds.{roomy}
 use Rattle.load.proofs.totals.run.Statement.{statement}
@@ -29,7 +29,7 @@ turn-requires : tie.Need-turn-requires Inv-loop μ-loop
 turn-requires c κs =
     let a = c .before in
     let h : a .loop .t ≤ 2000000000000000 = omega arith in
-    subst (λ (x : Load). Roomy x) (sym (a .loop .inv .2)) (roomy (a .before .before .args .seed) (a .loop .t) h)
+    subst (λ (x : Load). TotalsBounded x) (sym (a .loop .inv .2)) (roomy (a .before .before .args .seed) (a .loop .t) h)
 
 loop-again : tie.Need-loop-again Inv-loop μ-loop
 loop-again c =

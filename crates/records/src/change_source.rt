@@ -1,0 +1,5 @@
+// Who changed a setpoint.
+
+pub const MANUAL: u8 = 0;
+
+pub const EXTERNAL: u8 = 2;
