@@ -22,15 +22,8 @@ pub fn write_min_cool_setpoint_limit(
     let refused = limit_rules::is_cool_limit_refused(cfg, v, cfg.absmincool, s.maxcool, other);
     s.mincool = v;
     let a = attrs::update_attrs(r.attrs, s);
-    limit_stores::write_limit(
-        false,
-        cfg,
-        r,
-        d,
-        refused,
-        a,
-        attribute_id::MIN_COOL_SETPOINT_LIMIT,
-    )
+    let mincool = attribute_id::MIN_COOL_SETPOINT_LIMIT;
+    limit_stores::write_limit(false, cfg, r, d, refused, a, mincool)
 }
 
 pub fn write_max_cool_setpoint_limit(
@@ -46,13 +39,6 @@ pub fn write_max_cool_setpoint_limit(
     let refused = limit_rules::is_cool_limit_refused(cfg, v, s.mincool, cfg.absmaxcool, other);
     s.maxcool = v;
     let a = attrs::update_attrs(r.attrs, s);
-    limit_stores::write_limit(
-        false,
-        cfg,
-        r,
-        d,
-        refused,
-        a,
-        attribute_id::MAX_COOL_SETPOINT_LIMIT,
-    )
+    let maxcool = attribute_id::MAX_COOL_SETPOINT_LIMIT;
+    limit_stores::write_limit(false, cfg, r, d, refused, a, maxcool)
 }

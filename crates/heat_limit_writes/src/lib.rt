@@ -22,15 +22,8 @@ pub fn write_min_heat_setpoint_limit(
     let refused = limit_rules::is_heat_limit_refused(cfg, v, cfg.absminheat, s.maxheat, other);
     s.minheat = v;
     let a = attrs::update_attrs(r.attrs, s);
-    limit_stores::write_limit(
-        true,
-        cfg,
-        r,
-        d,
-        refused,
-        a,
-        attribute_id::MIN_HEAT_SETPOINT_LIMIT,
-    )
+    let minheat = attribute_id::MIN_HEAT_SETPOINT_LIMIT;
+    limit_stores::write_limit(true, cfg, r, d, refused, a, minheat)
 }
 
 pub fn write_max_heat_setpoint_limit(
@@ -46,13 +39,6 @@ pub fn write_max_heat_setpoint_limit(
     let refused = limit_rules::is_heat_limit_refused(cfg, v, s.minheat, cfg.absmaxheat, other);
     s.maxheat = v;
     let a = attrs::update_attrs(r.attrs, s);
-    limit_stores::write_limit(
-        true,
-        cfg,
-        r,
-        d,
-        refused,
-        a,
-        attribute_id::MAX_HEAT_SETPOINT_LIMIT,
-    )
+    let maxheat = attribute_id::MAX_HEAT_SETPOINT_LIMIT;
+    limit_stores::write_limit(true, cfg, r, d, refused, a, maxheat)
 }
