@@ -19,7 +19,7 @@ use Rattle.model.specs.Writes.{applied, thenNoticed, coolingWithGap, hea
 use Rattle.model.specs.Messages.{messageTaken, modeMessage, heatingMessage, coolingMessage, limitsMessage, outOfBandMessage}
 use Rattle.model.specs.Sweep.{Taken, started, localRecorded, modeEmitted, temperatureEmitted, coolingEmitted, heatingEmitted, relaysEmitted, runningModeEmitted, sameSnapshot, snapshotOf, noticeTable, rowNotices, tableNotices, attributedTo, attributeLocalSetpointChange, eventsOf, takenFrom, takeEvents, sweepEvents, swept, sweep, timer, seedEvents, deadline}
 use Rattle.model.specs.Step.{step}
-use Rattle.model.specs.Laws.{Bounded}
+use Rattle.model.specs.Laws.{Bounded, NothingLost}
 use Rattle.records.specs.declared.Config.{Config}
 use Rattle.records.specs.declared.Shadow.{Shadow}
 use Rattle.records.specs.declared.Shadow.the-variants.{Unseeded, Seeded}
@@ -35,6 +35,7 @@ use Rattle.records.specs.declared.OutOfBandMessage.{OutOfBandMessage}
 use Rattle.records.specs.declared.OutOfBandMessage.the-variants.{LocalTemperature, RunningState, Update, OccupiedHeatingSetpoint, OccupiedCoolingSetpoint, SystemMode, SetpointLimits}
 use Rattle.records.specs.declared.Call.the-variants.{WriteOccupiedHeatingSetpoint, WriteOccupiedCoolingSetpoint, WriteMinHeatSetpointLimit, WriteMaxHeatSetpointLimit, WriteMinCoolSetpointLimit, WriteMaxCoolSetpointLimit, WriteSystemMode, SetControlSequenceOfOperation, RaiseLowerSetpoint, ArmClock, OutOfBand, SeedEvents, Sweep, Timer, Deadline}
 use Rattle.model.proofs.Logic.{length-onlyIf, by-cond, by-unless}
+use Rattle.model.proofs.Packing.{packed-codes, packed-slots}
 
 -- at most n of them
 abbrev AtMost : {A : Type 0} → ℕ → List A → Type 0
@@ -202,3 +203,6 @@ bounded cfg r d SeedEvents = guarded _ r _ (quiet-bounded 0 (started cfg d r))
 bounded cfg r d Sweep = guarded _ r _ (swept-bounded cfg d r)
 bounded cfg r d Timer = guarded _ r _ (omega arith, taken-most cfg d r)
 bounded cfg r d Deadline = guarded _ r _ (omega arith, omega arith)
+
+pub nothing-lost : NothingLost
+nothing-lost cfg r d k = let b = bounded cfg r d k in (packed-codes (step cfg r d k .notices) (b .0), packed-slots (step cfg r d k .events) (b .1))

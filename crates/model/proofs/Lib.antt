@@ -3,6 +3,7 @@ pub mod Packing
 pub mod Logic
 pub mod Bounds
 pub mod Refused
+pub mod Causes
 pub mod Valid
 pub mod Chain
 pub mod Repair
@@ -13,4 +14,5 @@ pub mod Agree
 pub mod Mode
 pub mod Pairs
 pub mod Agreement
+pub mod LineThree
 pub mod Examples

@@ -8,10 +8,9 @@ use borrow.Author.Tests.{lt-ltb}
 use lib.ListN.{length, take, set, length-set, length-replicate}
 use lib.Seq.{take-suc-set}
 use Rattle.records.specs.Records.{noNotices, noEvents}
-use Rattle.model.specs.Answers.{foldLeft, push, pushAll, packed, emit, emitAll, packedEvents}
+use Rattle.model.specs.Answers.{foldLeft, push, pushAll, packed, slot, emit, emitAll, packedEvents}
 use Rattle.records.specs.declared.Event.{Event}
 use Rattle.records.specs.declared.Event.the-variants.{NoEvent}
-use Rattle.records.specs.declared.EventSlot.{EventSlot}
 use Rattle.records.specs.declared.Notices.{Notices}
 use Rattle.records.specs.declared.Events.{Events}
 
@@ -64,9 +63,6 @@ packed-codes l h =
   where
     fills : (n : Notices) (c : ℕ) → n .len < 13 → (push n c .codes ≡ set (n .codes) (n .len) c) × (push n c .len ≡ n .len + 1)
     fills n c h = (simp (lt-ltb _ _ h), simp (lt-ltb _ _ h))
-
-abbrev pub slot : Event → EventSlot
-slot e = record { event = e }
 
 -- and of packed events likewise, where there are at most 6
 pub packed-slots : (l : List Event) → length l ≤ 6 → take (packedEvents l .len) (packedEvents l .slots) ≡ map slot l

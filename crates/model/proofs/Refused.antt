@@ -1,19 +1,22 @@
--- Every call is done or refused, and a refusal changes nothing but, at 23 and 25, the armed clock.
+-- Opening and every call are done or refused, and a refusal changes nothing but, at 23 and 25, the armed clock.
 use mathlib.Core.Path.{_≡_, refl}
 use mathlib.Core.Logic.{_⊎_, inl, inr}
 use mathlib.Core.Bool.{Bool, true, false, cond}
 use mathlib.Core.List.{List, [], _∷_}
 use lib.Dec.{ltb, eqb}
-use Rattle.records.specs.Records.{withPending}
+use Rattle.records.specs.Records.{blank, withPending}
 use Rattle.model.specs.Served.{listed}
 use Rattle.model.specs.Answers.{Outcome, quiet}
-use Rattle.model.specs.Refusals.{Row, row, unless}
+use borrow.Author.Tests.{eqb-false}
+use Rattle.model.specs.Refusals.{Row, row, unless, numbered}
 use Rattle.model.specs.Attribution.{armedClock}
 use Rattle.model.specs.Writes.{applied, namesAbsentSide, raiseSides, writeOccupiedHeatingSetpoint, writeOccupiedCoolingSetpoint, writeMinHeatSetpointLimit, writeMaxHeatSetpointLimit, writeMinCoolSetpointLimit, writeMaxCoolSetpointLimit, writeSystemMode, setControlSequenceOfOperation, raiseLowerSetpoint, armClock}
 use Rattle.model.specs.Messages.{messageTaken, heatingMessage, coolingMessage, modeMessage, limitsMessage, outOfBandMessage}
 use Rattle.model.specs.Sweep.{noticeTable, tableNotices, sweepEvents, swept, notify, sweep, timer, seedEvents, deadline}
-use Rattle.model.specs.Step.{step}
-use Rattle.model.specs.Laws.{Refused, DoneOrRefused, UnsoundRefused}
+use Rattle.model.specs.Validation.{validated, accepted}
+use Rattle.model.specs.Repair.{repairedRecord}
+use Rattle.model.specs.Step.{opened, step}
+use Rattle.model.specs.Laws.{Refused, DoneOrRefused, OpenedOrRefused, UnsoundRefused}
 use Rattle.model.specs.Sound.{sound, unsound}
 use Rattle.records.specs.declared.Config.{Config}
 use Rattle.records.specs.declared.Controller.{Controller}
@@ -21,20 +24,20 @@ use Rattle.records.specs.declared.Readings.{Readings}
 use Rattle.records.specs.declared.OutOfBandMessage.{OutOfBandMessage}
 use Rattle.records.specs.declared.OutOfBandMessage.the-variants.{LocalTemperature, RunningState, Update, OccupiedHeatingSetpoint, OccupiedCoolingSetpoint, SystemMode, SetpointLimits}
 use Rattle.records.specs.declared.Call.the-variants.{WriteOccupiedHeatingSetpoint, WriteOccupiedCoolingSetpoint, WriteMinHeatSetpointLimit, WriteMaxHeatSetpointLimit, WriteMinCoolSetpointLimit, WriteMaxCoolSetpointLimit, WriteSystemMode, SetControlSequenceOfOperation, RaiseLowerSetpoint, ArmClock, OutOfBand, SeedEvents, Sweep, Timer, Deadline}
-use Rattle.model.proofs.Logic.{by-unless}
+use Rattle.model.proofs.Logic.{by-refusal}
 
 module _ (cfg : Config) (r : Controller) (d : Readings) where
   abbrev Either : Outcome → Type 0
   Either o = (o .number ≡ 0) ⊎ Refused cfg r d o
 
-  guarded : (l : List Row) (o : Outcome) → Either o → Either (unless l r o)
-  guarded l o h = by-unless Either l r o (λ n. inr (inl refl)) (λ e. h)
+  guarded : (l : List Row) (o : Outcome) → numbered l ≡ true → Either o → Either (unless l r o)
+  guarded l o m h = by-refusal Either l r o m (λ n z. inr (eqb-false n 0 z, inl refl)) (λ e. h)
 
   -- 25 and 23 keep the newly armed clock
   raise-guarded : (t u : Bool) (o : Outcome) → Either o → Either (unless (row 25 t ∷ row 23 u ∷ []) (armedClock cfg d r) o)
   unfolding unless
-  raise-guarded true u o h = inr (inr (inr refl, refl))
-  raise-guarded false true o h = inr (inr (inl refl, refl))
+  raise-guarded true u o h = inr (eqb-false 25 0 refl, inr (inr refl, refl))
+  raise-guarded false true o h = inr (eqb-false 23 0 refl, inr (inl refl, refl))
   raise-guarded false false o h = h
 
   message : (m : OutOfBandMessage) → Either (messageTaken cfg r m)
@@ -44,7 +47,7 @@ module _ (cfg : Config) (r : Controller) (d : Readings) where
   message Update = inl refl
   message (OccupiedHeatingSetpoint v) = inl refl
   message (OccupiedCoolingSetpoint v) = inl refl
-  message (SystemMode v) = guarded _ _ (inl refl)
+  message (SystemMode v) = guarded _ _ refl (inl refl)
   message (SetpointLimits a b c e) = inl refl
 
   pub swept-done : swept cfg d r .number ≡ 0
@@ -58,22 +61,22 @@ module _ (cfg : Config) (r : Controller) (d : Readings) where
 
 pub done-or-refused : DoneOrRefused
 unfolding step writeOccupiedHeatingSetpoint writeOccupiedCoolingSetpoint writeMinHeatSetpointLimit writeMaxHeatSetpointLimit writeMinCoolSetpointLimit writeMaxCoolSetpointLimit writeSystemMode setControlSequenceOfOperation raiseLowerSetpoint armClock outOfBandMessage seedEvents sweep timer deadline applied
-done-or-refused cfg r d (WriteOccupiedHeatingSetpoint v) = guarded cfg r d _ _ (inl refl)
-done-or-refused cfg r d (WriteOccupiedCoolingSetpoint v) = guarded cfg r d _ _ (inl refl)
-done-or-refused cfg r d (WriteMinHeatSetpointLimit v) = guarded cfg r d _ _ (inl refl)
-done-or-refused cfg r d (WriteMaxHeatSetpointLimit v) = guarded cfg r d _ _ (inl refl)
-done-or-refused cfg r d (WriteMinCoolSetpointLimit v) = guarded cfg r d _ _ (inl refl)
-done-or-refused cfg r d (WriteMaxCoolSetpointLimit v) = guarded cfg r d _ _ (inl refl)
-done-or-refused cfg r d (WriteSystemMode v) = guarded cfg r d _ _ (inl refl)
-done-or-refused cfg r d (SetControlSequenceOfOperation v) = guarded cfg r d _ _ (inl refl)
+done-or-refused cfg r d (WriteOccupiedHeatingSetpoint v) = guarded cfg r d _ _ refl (inl refl)
+done-or-refused cfg r d (WriteOccupiedCoolingSetpoint v) = guarded cfg r d _ _ refl (inl refl)
+done-or-refused cfg r d (WriteMinHeatSetpointLimit v) = guarded cfg r d _ _ refl (inl refl)
+done-or-refused cfg r d (WriteMaxHeatSetpointLimit v) = guarded cfg r d _ _ refl (inl refl)
+done-or-refused cfg r d (WriteMinCoolSetpointLimit v) = guarded cfg r d _ _ refl (inl refl)
+done-or-refused cfg r d (WriteMaxCoolSetpointLimit v) = guarded cfg r d _ _ refl (inl refl)
+done-or-refused cfg r d (WriteSystemMode v) = guarded cfg r d _ _ refl (inl refl)
+done-or-refused cfg r d (SetControlSequenceOfOperation v) = guarded cfg r d _ _ refl (inl refl)
 done-or-refused cfg r d (RaiseLowerSetpoint mode amount) =
-    guarded cfg r d _ _ (raise-guarded cfg r d (ltb 2 mode) (namesAbsentSide cfg mode) (applied cfg d (raiseSides cfg d mode amount (armedClock cfg d r))) (inl refl))
-done-or-refused cfg r d ArmClock = guarded cfg r d _ _ (inl refl)
-done-or-refused cfg r d (OutOfBand m) = guarded cfg r d _ _ (message cfg r d m)
-done-or-refused cfg r d SeedEvents = guarded cfg r d _ _ (inl refl)
-done-or-refused cfg r d Sweep = guarded cfg r d _ _ (inl (swept-done cfg r d))
-done-or-refused cfg r d Timer = guarded cfg r d _ _ (inl refl)
-done-or-refused cfg r d Deadline = guarded cfg r d _ _ (inl refl)
+    guarded cfg r d _ _ refl (raise-guarded cfg r d (ltb 2 mode) (namesAbsentSide cfg mode) (applied cfg d (raiseSides cfg d mode amount (armedClock cfg d r))) (inl refl))
+done-or-refused cfg r d ArmClock = guarded cfg r d _ _ refl (inl refl)
+done-or-refused cfg r d (OutOfBand m) = guarded cfg r d _ _ refl (message cfg r d m)
+done-or-refused cfg r d SeedEvents = guarded cfg r d _ _ refl (inl refl)
+done-or-refused cfg r d Sweep = guarded cfg r d _ _ refl (inl (swept-done cfg r d))
+done-or-refused cfg r d Timer = guarded cfg r d _ _ refl (inl refl)
+done-or-refused cfg r d Deadline = guarded cfg r d _ _ refl (inl refl)
 
 -- 28 first
 first-28 : (cfg : Config) (r : Controller) (ws : List Row) (o : Outcome) → sound cfg r ≡ false → unless (unsound cfg r ∷ ws) r o ≡ quiet 28 r
@@ -97,3 +100,15 @@ unsound-refused cfg r d SeedEvents e = first-28 cfg r _ _ e
 unsound-refused cfg r d Sweep e = first-28 cfg r _ _ e
 unsound-refused cfg r d Timer e = first-28 cfg r _ _ e
 unsound-refused cfg r d Deadline e = first-28 cfg r _ _ e
+
+-- a refused opening returns its row's number and blank
+pub opened-or-refused : OpenedOrRefused
+unfolding opened accepted
+opened-or-refused cfg s = go (eqb (validated cfg) 0) refl
+  where
+    go : (t : Bool) → eqb (validated cfg) 0 ≡ t
+        → ((t ≡ true) × (cond t (repairedRecord cfg blank (record { settings = s; dirty = false })) (quiet (validated cfg) blank) .number ≡ 0))
+        ⊎ ((t ≡ false) × (cond t (repairedRecord cfg blank (record { settings = s; dirty = false })) (quiet (validated cfg) blank) .number ≡ 0 → ⊥)
+        × (cond t (repairedRecord cfg blank (record { settings = s; dirty = false })) (quiet (validated cfg) blank) ≡ quiet (cond t (repairedRecord cfg blank (record { settings = s; dirty = false })) (quiet (validated cfg) blank) .number) blank))
+    go true e = inl (refl, refl)
+    go false e = inr (refl, eqb-false (validated cfg) 0 e, refl)

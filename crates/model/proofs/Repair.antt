@@ -1,11 +1,11 @@
--- Repair of any settings on an accepted configuration leaves what row 28 asks of settings.
-use mathlib.Core.Path.{_≡_, refl, sym, _∙_}
+-- Repair of any settings on an accepted configuration leaves what row 28 asks of settings, and the limits that the paper's own steps give.
+use mathlib.Core.Path.{_≡_, refl, sym, _∙_, ap, ap₂}
 use mathlib.Core.Bool.{true, false, _&&_}
 use Prim.Native.Nat.{ℕ}
 use lib.IntN.{ℤ, _+ℤ_, _-ℤ_}
 use lib.Signed.{_≤ℤ_}
 use Rattle.integers.specs.Linear.{linear, sum-parts, diff-parts}
-use Rattle.integers.specs.Clamp.{clampZ, minZ, min-parts, clamp-low, clamp-high, clamp-below, clamp-above}
+use Rattle.integers.specs.Clamp.{clampZ, maxZ, minZ, max-parts, min-parts, clamp-low, clamp-high, clamp-below, clamp-above}
 use Rattle.units.specs.Units.{minus, widened, clamped}
 use Rattle.units.specs.declared.Hundredths.{Hundredths}
 use Rattle.units.specs.declared.Wide.{Wide}
@@ -14,12 +14,13 @@ use Rattle.model.specs.Served.{heats, cools, auto, hasHeatLimits, hasCoo
 use Rattle.model.specs.Units.{deadBand}
 use Rattle.model.specs.Limits.{minHeatSetpoint, maxHeatSetpoint, minCoolSetpoint, maxCoolSetpoint, inHeatLimits, inCoolLimits, clampHeatSetpoint, clampCoolSetpoint}
 use Rattle.model.specs.Modes.{isSupportedSystemMode}
-use Rattle.model.specs.Repair.{clampMinHeat, clampMaxHeat, clampMinCool, clampMaxCool, pullMinHeat, pullMaxHeat, clampHeating, clampCooling, pushCooling, pushHeating, repairMode, repairLimits, repairSetpoints, repaired}
+use Rattle.model.specs.Repair.{LimitNumbers, limitNumbers, writtenHeat, writtenCool, writtenPull, writtenLimits, clampMinHeat, clampMaxHeat, clampMinCool, clampMaxCool, pullMinHeat, pullMaxHeat, clampHeating, clampCooling, pushCooling, pushHeating, repairMode, repairLimits, repairSetpoints, repaired}
+use Rattle.model.specs.Laws.{LimitsAsWritten}
 use Rattle.model.specs.Sound.{soundHeatLimits, soundCoolLimits, soundGap, soundHeating, soundCooling}
 use Rattle.records.specs.declared.Config.{Config}
 use Rattle.records.specs.declared.Attrs.{Attrs}
-use Rattle.model.proofs.Logic.{both, and-true, implies, by-cond, clash}
-use Rattle.model.proofs.Valid.{Valid}
+use Rattle.model.proofs.Logic.{both, and-true, implies, by-cond, cases, clash}
+use Rattle.model.proofs.Valid.{Valid, valid}
 use Rattle.model.proofs.Chain.{Ordered, LimitTests, Placed, is-heat-ordered, is-cool-ordered, is-gaps, in-force, heat-clamped, cool-clamped}
 
 -- a minimum clamped to ABS, and a maximum to minimum..ABS_MAX
@@ -31,7 +32,7 @@ paired mi ma lo hi h =
 -- the heating limits pulled below cooling's, each a step
 module _ (d lo hi mi ma mc xc : ℤ) (o : Ordered lo mi ma hi) (c : mc ≤ℤ xc) (g : (lo +ℤ d) ≤ℤ mc) where
   -- the first is the lesser of itself and cooling minimum − dead band
-  pub pulled-min : clampZ (mc -ℤ d) lo mi ≡ minZ mi (mc -ℤ d)
+  pulled-min : clampZ (mc -ℤ d) lo mi ≡ minZ mi (mc -ℤ d)
   pulled-min =
       let a = clamp-high (mc -ℤ d) lo mi (o .low) in
       let b = clamp-below (mc -ℤ d) (mc -ℤ d) lo mi (omega linear) (omega (linear, sum-parts lo d, diff-parts mc d)) in
@@ -48,13 +49,19 @@ module _ (d lo hi mi ma mc xc : ℤ) (o : Ordered lo mi ma hi) (c : mc ≤ℤ xc
       omega (linear, sum-parts m d, diff-parts mc d)
 
 module _ (d lo hi mi ma mc xc : ℤ) (o : Ordered lo mi ma hi) (c : mc ≤ℤ xc) (g : (mi +ℤ d) ≤ℤ mc) where
-  -- the second is the lesser of itself and cooling maximum − dead band; "but not below the minimum" never acts
-  pub pulled-max : clampZ (xc -ℤ d) mi ma ≡ minZ ma (xc -ℤ d)
+  -- the second is the lesser of itself and cooling maximum − dead band
+  pulled-max : clampZ (xc -ℤ d) mi ma ≡ minZ ma (xc -ℤ d)
   pulled-max =
       let a = clamp-high (xc -ℤ d) mi ma (o .mid) in
       let b = clamp-below (xc -ℤ d) (xc -ℤ d) mi ma (omega linear) (omega (linear, sum-parts mi d, diff-parts xc d)) in
       let e = clamp-above (minZ ma (xc -ℤ d)) (xc -ℤ d) mi ma (omega (linear, min-parts ma (xc -ℤ d))) (omega (linear, min-parts ma (xc -ℤ d))) in
       omega (linear, min-parts ma (xc -ℤ d))
+
+  -- so "but not below the minimum" never acts
+  floor-unused : maxZ mi (minZ ma (xc -ℤ d)) ≡ clampZ (xc -ℤ d) mi ma
+  floor-unused =
+      let f = clamp-low (xc -ℤ d) mi ma (o .mid) in
+      omega (linear, pulled-max, max-parts mi (minZ ma (xc -ℤ d)))
 
   max-ordered : Ordered lo mi (clampZ (xc -ℤ d) mi ma) hi
   max-ordered = let a = clamp-high (xc -ℤ d) mi ma (o .mid) in record { low = o .low; mid = clamp-low (xc -ℤ d) mi ma (o .mid); high = omega linear }
@@ -245,3 +252,73 @@ module _ (cfg : Config) (v : Valid cfg) where
       let b = repairSetpoints cfg (repairLimits cfg a) in
       let k = setpoints-repaired (repairLimits cfg a) (limits-repaired a) in
       by-cond SetWhole (isSupportedSystemMode cfg (b .settings .mode)) b (setMode b 0) (λ e. (k, e)) (λ f. (mode-past b 0 k, off-supported))
+
+abbrev limitsOf : ℤ → ℤ → ℤ → ℤ → LimitNumbers
+limitsOf x y z w = record { minheat = x; maxheat = y; mincool = z; maxcool = w }
+
+-- the limits, by the paper's own steps
+module _ (cfg : Config) (v : Valid cfg) where
+  heat-written : (a : Attrs) → limitNumbers (clampMaxHeat cfg (clampMinHeat cfg a) .settings) ≡ writtenHeat cfg (limitNumbers (a .settings))
+  unfolding clampMaxHeat clampMinHeat writtenHeat clamped widened
+  heat-written a = cases (hasHeatLimits cfg) (λ h. rw h refl) (λ h. rw h refl)
+
+  cool-written : (a : Attrs) → limitNumbers (clampMaxCool cfg (clampMinCool cfg a) .settings) ≡ writtenCool cfg (limitNumbers (a .settings))
+  unfolding clampMaxCool clampMinCool writtenCool clamped widened
+  cool-written a = cases (hasCoolLimits cfg) (λ h. rw h refl) (λ h. rw h refl)
+
+  pull-written : (a : Attrs) → HeatOrdered cfg v a → CoolOrdered cfg v a → limitNumbers (pullMaxHeat cfg (pullMinHeat cfg a) .settings) ≡ writtenPull cfg (limitNumbers (a .settings))
+  unfolding pullMaxHeat pullMinHeat writtenPull clamped minus
+  pull-written a heat cool =
+      cases (auto cfg && hasHeatLimits cfg)
+      (λ t. let s = a .settings in
+      let d = deadBand cfg .0 in
+      let lo = cfg .absminheat .0 in
+      let hi = cfg .absmaxheat .0 in
+      let mi = s .minheat .0 in
+      let ma = s .maxheat .0 in
+      let mc = s .mincool .0 in
+      let xc = s .maxcool .0 in
+      let b = both (auto cfg) (hasHeatLimits cfg) t in
+      let o = heat (b .1) in
+      let k = cool (sym (v .auto-limits (b .0)) ∙ b .1) in
+      let l = v .low (b .0) in
+      let g : (lo +ℤ d) ≤ℤ mc = omega linear in
+      let p = pulled-min d lo hi mi ma mc xc o (k .mid) g in
+      let i = clampZ (mc -ℤ d) lo mi in
+      let f = floor-unused d lo hi i ma mc xc (min-ordered d lo hi mi ma mc xc o (k .mid) g) (k .mid) (min-gap d lo hi mi ma mc xc o (k .mid) g) in
+      rw t (ap₂ (λ (x y : ℤ). limitsOf x y mc xc) p (sym f ∙ ap (λ (x : ℤ). maxZ x (minZ ma (xc -ℤ d))) p)))
+      (λ t. rw t refl)
+
+  limits-written : (a : Attrs) → limitNumbers (repairLimits cfg a .settings) ≡ writtenLimits cfg (limitNumbers (a .settings))
+  unfolding repairLimits
+  limits-written a =
+      let b = clampMaxHeat cfg (clampMinHeat cfg a) in
+      let c = clampMaxCool cfg (clampMinCool cfg b) in
+      pull-written c (heat-past-cool cfg v b (heat-clamps cfg v a)) (cool-clamps cfg v b)
+      ∙ ap (writtenPull cfg) (cool-written b ∙ ap (writtenCool cfg) (heat-written a))
+
+-- the steps after them leave the limits
+module _ (cfg : Config) where
+  abbrev Keeps : Attrs → Attrs → Type 0
+  Keeps a b = limitNumbers (b .settings) ≡ limitNumbers (a .settings)
+
+  setpoints-keep : (a : Attrs) → Keeps a (repairSetpoints cfg a)
+  unfolding repairSetpoints pushHeating pushCooling clampCooling clampHeating
+  setpoints-keep a =
+      let b = clampHeating cfg a in
+      let c = clampCooling cfg b in
+      let e = pushCooling cfg c in
+      by-cond (Keeps e) (auto cfg) _ e (λ t. refl) (λ t. refl)
+      ∙ by-cond (Keeps c) (auto cfg) _ c (λ t. refl) (λ t. refl)
+      ∙ by-cond (Keeps b) (cools cfg) _ b (λ t. refl) (λ t. refl)
+      ∙ by-cond (Keeps a) (heats cfg) _ a (λ t. refl) (λ t. refl)
+
+  mode-keeps : (a : Attrs) → Keeps a (repairMode cfg a)
+  unfolding repairMode
+  mode-keeps a = by-cond (Keeps a) (isSupportedSystemMode cfg (a .settings .mode)) a (setMode a 0) (λ t. refl) (λ t. refl)
+
+pub limits-as-written : LimitsAsWritten
+unfolding repaired
+limits-as-written cfg a ok =
+    let l = repairLimits cfg a in
+    mode-keeps cfg (repairSetpoints cfg l) ∙ setpoints-keep cfg l ∙ limits-written cfg (valid cfg ok) a

@@ -11,6 +11,7 @@ use Rattle.records.specs.declared.Controller.{Controller}
 use Rattle.records.specs.declared.Order.{Order}
 use Rattle.records.specs.declared.Order.the-variants.{NoOrder}
 use Rattle.records.specs.declared.Event.{Event}
+use Rattle.records.specs.declared.EventSlot.{EventSlot}
 use Rattle.records.specs.declared.Notices.{Notices}
 use Rattle.records.specs.declared.Events.{Events}
 use Rattle.records.specs.declared.Answer.{Answer}
@@ -38,8 +39,11 @@ onlyIf false l = []
 unfoldable pub push : Notices → ℕ → Notices
 push n code = cond (ltb (n .len) 13) (record { codes = set (n .codes) (n .len) code; len = n .len + 1 }) n
 
+abbrev pub slot : Event → EventSlot
+slot e = record { event = e }
+
 unfoldable pub emit : Events → Event → Events
-emit es e = cond (ltb (es .len) 6) (record { slots = set (es .slots) (es .len) (record { event = e }); len = es .len + 1 }) es
+emit es e = cond (ltb (es .len) 6) (record { slots = set (es .slots) (es .len) (slot e); len = es .len + 1 }) es
 
 -- packing: the left fold of pushing, from the empty array
 abbrev pub foldLeft : {A B : Type 0} → (A → B → A) → A → List B → A

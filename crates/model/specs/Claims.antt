@@ -1,4 +1,5 @@
--- The whole-list theorem: agreement of two controllers, and the band of one. docs/THEOREM.md says the same in plain words.
+-- Line 3 of document 01, over whole lists: agreement of two controllers, the band of each, and both as one claim, `LineThree`.
+-- docs/THEOREM.md says the same in plain words.
 use mathlib.Core.Path.{_≡_}
 use mathlib.Core.Bool.{Bool, true, false, cond}
 use mathlib.Core.List.{List, [], _∷_, _++_}
@@ -100,14 +101,18 @@ pub record ModeWritten (cfg : Config) (r : Controller) (l : List Entry) : Type 0
   pub whole : l ≡ before ++ (entry (WriteSystemMode mode) readings ∷ later)
   pub taken : number cfg (run cfg r before) (entry (WriteSystemMode mode) readings) ≡ 0
 
+-- two controllers, opened on s and on t, agree after the list l and after its continuation m, whose calls give equal numbers
+abbrev pub AgreeAfter : Config → Settings → Settings → List Entry → List Entry → Type 0
+AgreeAfter cfg s t l m =
+    Agree cfg (run cfg (opened cfg s .rec) (l ++ m)) (run cfg (opened cfg t .rec) (l ++ m))
+    × (numbers cfg (run cfg (opened cfg s .rec) l) m ≡ numbers cfg (run cfg (opened cfg t .rec) l) m)
+
 -- Agreement. Two controllers open on one accepted configuration, each on its own settings, and get the same list. Once it has these three,
 -- accepted by one of them, both agree, and so they do after every longer list; every later call gives equal numbers
 abbrev pub Agreement : Type 0
 Agreement =
     (cfg : Config) (s t : Settings) (l m : List Entry) → accepted cfg ≡ true
-    → LimitsThenWrites cfg (opened cfg s .rec) l → ModeWritten cfg (opened cfg s .rec) l
-    → Agree cfg (run cfg (opened cfg s .rec) (l ++ m)) (run cfg (opened cfg t .rec) (l ++ m))
-    × (numbers cfg (run cfg (opened cfg s .rec) l) m ≡ numbers cfg (run cfg (opened cfg t .rec) l) m)
+    → LimitsThenWrites cfg (opened cfg s .rec) l → ModeWritten cfg (opened cfg s .rec) l → AgreeAfter cfg s t l m
 
 -- The stronger facts that carry it. From the limits message on: equal limits, and equal numbers
 abbrev pub LimitsAgree : Type 0
@@ -165,9 +170,21 @@ pub record InBand (cfg : Config) (s : Settings) : Type 0 where
 abbrev pub GapKept : Config → Settings → Type 0
 GapKept cfg s = auto cfg ≡ true → (s .heating .0 +ℤ deadBand cfg .0) ≤ℤ s .cooling .0
 
--- Band. After opening and after each call of any list the setpoints lie in their band, and the gap is kept unless shortGapAllowed
-abbrev pub Band : Type 0
-Band =
-    (cfg : Config) (s : Settings) (l : List Entry) → accepted cfg ≡ true
-    → InBand cfg (run cfg (opened cfg s .rec) l .attrs .settings)
+-- after the list the setpoints lie in their band, and the gap is kept unless a short one is allowed
+abbrev pub BandAfter : Config → Settings → List Entry → Type 0
+BandAfter cfg s l =
+    InBand cfg (run cfg (opened cfg s .rec) l .attrs .settings)
     × (shortGapAllowed cfg (opened cfg s .rec) false l ≡ false → GapKept cfg (run cfg (opened cfg s .rec) l .attrs .settings))
+
+-- Band. After opening and after each call of any list
+abbrev pub Band : Type 0
+Band = (cfg : Config) (s : Settings) (l : List Entry) → accepted cfg ≡ true → BandAfter cfg s l
+
+-- Line 3. On one accepted configuration two controllers, each opened on its own settings, get the same list of calls: after all of it each has its
+-- setpoints in their band, and once its front part has a limits message, adjacent setpoint writes and a mode write, accepted by one of them, both
+-- agree from then on
+abbrev pub LineThree : Type 0
+LineThree =
+    (cfg : Config) (s t : Settings) (l m : List Entry) → accepted cfg ≡ true
+    → BandAfter cfg s (l ++ m) × BandAfter cfg t (l ++ m)
+    × (LimitsThenWrites cfg (opened cfg s .rec) l → ModeWritten cfg (opened cfg s .rec) l → AgreeAfter cfg s t l m)

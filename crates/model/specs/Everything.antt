@@ -1,6 +1,7 @@
 -- A name by which a proof opens every definition at once, to compute with them.
 use Rattle.integers.specs.Clamp.{clampZ, maxZ, minZ}
 use Rattle.units.specs.Units.{above, apart, below, clamped, equal, greater, inHundredths, less, lesser, minus, plus, raised, saturatedDifference, widened, within}
+use Rattle.records.specs.Records.{sameSettings}
 use Rattle.model.specs.Answers.{emit, emitAll, onlyIf, packed, packedEvents, push, pushAll}
 use Rattle.model.specs.Attribution.{armedClock, claimSetpoints, recorded, servedSetpoints}
 use Rattle.model.specs.Claims.{numbers, run}
@@ -20,5 +21,5 @@ use Rattle.model.specs.Validation.{accepted, attributeRows, eventRows, f
 use Rattle.model.specs.Writes.{applied, armClock, coolingWithGap, heatingWithGap, namesAbsentSide, pullCooling, pullHeating, raiseBoth, raiseCooling, raiseHeating, raiseLowerSetpoint, raiseSides, recordedIf, relayNotices, setControlSequenceOfOperation, sourceNotices, storeCoolingSetpoint, storeHeatingSetpoint, tooNearCooling, tooNearHeating, writeMaxCoolSetpointLimit, writeMaxHeatSetpointLimit, writeMinCoolSetpointLimit, writeMinHeatSetpointLimit, writeOccupiedCoolingSetpoint, writeOccupiedHeatingSetpoint, writeSystemMode}
 
 unfoldable pub everything : Unit {0}
-unfolding clampZ maxZ minZ above apart below clamped equal greater inHundredths less lesser minus plus raised saturatedDifference widened within emit emitAll onlyIf packed packedEvents push pushAll armedClock claimSetpoints recorded servedSetpoints numbers run clampCoolSetpoint clampHeatSetpoint inCoolLimits inHeatLimits maxCoolSetpoint maxHeatSetpoint minCoolSetpoint minHeatSetpoint coolingMessage heatingMessage limitsMessage limitsTaken modeMessage outOfBandMessage isSupportedSystemMode relayMask runningMode runningState sequenceCools sequenceHeats askSweep firstFailing unless clampCooling clampHeating clampMaxCool clampMaxHeat clampMinCool clampMinHeat pullMaxHeat pullMinHeat pushCooling pushHeating repairLimits repairMode repairSetpoints repaired emitsAny hasCoolLimits hasHeatLimits listed someCoolLimit someHeatLimit supports sound soundCoolLimits soundCooling soundGap soundHeatLimits soundHeating soundSettings opened step attributeLocalSetpointChange committed deadline deferredDeadline eventsOf rowNotices sameSnapshot seedEvents snapshotOf started sweep sweepEvents swept tableNotices takeEvents coolingEmitted heatingEmitted modeEmitted relaysEmitted runningModeEmitted temperatureEmitted timer eventDue reportedTemperature deadBand accepted attributeRows eventRows featureRows limitRows numberRows validated applied armClock coolingWithGap heatingWithGap namesAbsentSide pullCooling pullHeating raiseBoth raiseCooling raiseHeating raiseLowerSetpoint raiseSides recordedIf relayNotices setControlSequenceOfOperation sourceNotices storeCoolingSetpoint storeHeatingSetpoint tooNearCooling tooNearHeating writeMaxCoolSetpointLimit writeMaxHeatSetpointLimit writeMinCoolSetpointLimit writeMinHeatSetpointLimit writeOccupiedCoolingSetpoint writeOccupiedHeatingSetpoint writeSystemMode
+unfolding sameSettings clampZ maxZ minZ above apart below clamped equal greater inHundredths less lesser minus plus raised saturatedDifference widened within emit emitAll onlyIf packed packedEvents push pushAll armedClock claimSetpoints recorded servedSetpoints numbers run clampCoolSetpoint clampHeatSetpoint inCoolLimits inHeatLimits maxCoolSetpoint maxHeatSetpoint minCoolSetpoint minHeatSetpoint coolingMessage heatingMessage limitsMessage limitsTaken modeMessage outOfBandMessage isSupportedSystemMode relayMask runningMode runningState sequenceCools sequenceHeats askSweep firstFailing unless clampCooling clampHeating clampMaxCool clampMaxHeat clampMinCool clampMinHeat pullMaxHeat pullMinHeat pushCooling pushHeating repairLimits repairMode repairSetpoints repaired emitsAny hasCoolLimits hasHeatLimits listed someCoolLimit someHeatLimit supports sound soundCoolLimits soundCooling soundGap soundHeatLimits soundHeating soundSettings opened step attributeLocalSetpointChange committed deadline deferredDeadline eventsOf rowNotices sameSnapshot seedEvents snapshotOf started sweep sweepEvents swept tableNotices takeEvents coolingEmitted heatingEmitted modeEmitted relaysEmitted runningModeEmitted temperatureEmitted timer eventDue reportedTemperature deadBand accepted attributeRows eventRows featureRows limitRows numberRows validated applied armClock coolingWithGap heatingWithGap namesAbsentSide pullCooling pullHeating raiseBoth raiseCooling raiseHeating raiseLowerSetpoint raiseSides recordedIf relayNotices setControlSequenceOfOperation sourceNotices storeCoolingSetpoint storeHeatingSetpoint tooNearCooling tooNearHeating writeMaxCoolSetpointLimit writeMaxHeatSetpointLimit writeMinCoolSetpointLimit writeMinHeatSetpointLimit writeOccupiedCoolingSetpoint writeOccupiedHeatingSetpoint writeSystemMode
 everything = tt

@@ -2,30 +2,69 @@
 use mathlib.Core.Path.{_≡_}
 use mathlib.Core.Logic.{_⊎_}
 use mathlib.Core.Bool.{true, false}
-use Prim.Native.Nat.{_≤_}
-use lib.ListN.{length}
-use Rattle.model.specs.Answers.{Outcome, quiet}
+use mathlib.Core.List.{List, map}
+use Prim.Native.Nat.{ℕ, _≤_}
+use lib.ListN.{length, take}
+use Rattle.records.specs.Records.{blank}
+use Rattle.model.specs.Answers.{Outcome, slot, answer, quiet}
+use Rattle.model.specs.Refusals.{Row, FirstCause, Clear}
 use Rattle.model.specs.Attribution.{armedClock}
-use Rattle.model.specs.Validation.{accepted}
+use Rattle.model.specs.Validation.{validationRows, accepted}
+use Rattle.model.specs.Repair.{repaired, limitNumbers, writtenLimits}
 use Rattle.model.specs.Sound.{sound}
+use Rattle.model.specs.Causes.{causes}
 use Rattle.model.specs.Step.{opened, step}
 use Rattle.records.specs.declared.Config.{Config}
 use Rattle.records.specs.declared.Settings.{Settings}
+use Rattle.records.specs.declared.Attrs.{Attrs}
 use Rattle.records.specs.declared.Controller.{Controller}
 use Rattle.records.specs.declared.Readings.{Readings}
 use Rattle.records.specs.declared.Call.{Call}
 
 -- no call gives more than 13 notices or 6 events
 abbrev pub Bounded : Type 0
-Bounded = (cfg : Config) (r : Controller) (d : Readings) (k : Call) → (length (step cfg r d k .notices) ≤ 13) × (length (step cfg r d k .events) ≤ 6)
+Bounded =
+    (cfg : Config) (r : Controller) (d : Readings) (k : Call) → (length (step cfg r d k .notices) ≤ 13) × (length (step cfg r d k .events) ≤ 6)
 
--- refused: the record as it was, save the newly armed clock at 23 and 25, and no order, notice or event
+-- an answer holds its outcome's notices and events whole: the first len codes are the list, and likewise the events
+abbrev pub PackedWhole : Outcome → Type 0
+PackedWhole o =
+    (take (answer o .notices .len) (answer o .notices .codes) ≡ o .notices)
+    × (take (answer o .events .len) (answer o .events .slots) ≡ map slot (o .events))
+
+-- packing loses nothing of any call
+abbrev pub NothingLost : Type 0
+NothingLost = (cfg : Config) (r : Controller) (d : Readings) (k : Call) → PackedWhole (step cfg r d k)
+
+-- refused: a number that is not 0, the record as it was, save the newly armed clock at 23 and 25, and no order, notice or event
 abbrev pub Refused : Config → Controller → Readings → Outcome → Type 0
-Refused cfg r d o = (o ≡ quiet (o .number) r) ⊎ (((o .number ≡ 23) ⊎ (o .number ≡ 25)) × (o ≡ quiet (o .number) (armedClock cfg d r)))
+Refused cfg r d o =
+    (o .number ≡ 0 → ⊥)
+    × ((o ≡ quiet (o .number) r) ⊎ (((o .number ≡ 23) ⊎ (o .number ≡ 25)) × (o ≡ quiet (o .number) (armedClock cfg d r))))
 
 -- every call is done or refused
 abbrev pub DoneOrRefused : Type 0
 DoneOrRefused = (cfg : Config) (r : Controller) (d : Readings) (k : Call) → (step cfg r d k .number ≡ 0) ⊎ Refused cfg r d (step cfg r d k)
+
+-- an opening is done, or refused: a number that is not 0, the blank record and nothing else
+abbrev pub OpenedOrRefused : Type 0
+OpenedOrRefused =
+    (cfg : Config) (s : Settings)
+    → ((accepted cfg ≡ true) × (opened cfg s .number ≡ 0))
+    ⊎ ((accepted cfg ≡ false) × (opened cfg s .number ≡ 0 → ⊥) × (opened cfg s ≡ quiet (opened cfg s .number) blank))
+
+-- a number that is not 0 comes exactly where its row's cause holds and no row before it does; 0 exactly where no cause holds
+abbrev pub ByRows : ℕ → List Row → Type 0
+ByRows number ws =
+    ((n : ℕ) → (n ≡ 0 → ⊥) → (number ≡ n → FirstCause n ws) × (FirstCause n ws → number ≡ n))
+    × (number ≡ 0 → Clear ws) × (Clear ws → number ≡ 0)
+
+-- each refusal in its own case only: of every call, and of the opening
+abbrev pub OwnCase : Type 0
+OwnCase = (cfg : Config) (r : Controller) (d : Readings) (k : Call) → ByRows (step cfg r d k .number) (causes cfg r d k)
+
+abbrev pub OpeningOwnCase : Type 0
+OpeningOwnCase = (cfg : Config) (s : Settings) → ByRows (opened cfg s .number) (validationRows cfg)
 
 -- opening and every call leave a record that passes row 28
 abbrev pub OpenedSound : Type 0
@@ -37,3 +76,7 @@ StepSound = (cfg : Config) (r : Controller) (d : Readings) (k : Call) → sound 
 -- 28 comes before every other number, and changes nothing
 abbrev pub UnsoundRefused : Type 0
 UnsoundRefused = (cfg : Config) (r : Controller) (d : Readings) (k : Call) → sound cfg r ≡ false → step cfg r d k ≡ quiet 28 r
+
+-- on an accepted configuration repair leaves the limits that the paper's own steps give, unserved ones as they were
+abbrev pub LimitsAsWritten : Type 0
+LimitsAsWritten = (cfg : Config) (a : Attrs) → accepted cfg ≡ true → limitNumbers (repaired cfg a .settings) ≡ writtenLimits cfg (limitNumbers (a .settings))

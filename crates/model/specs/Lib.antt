@@ -13,6 +13,7 @@ pub mod Sound
 pub mod Writes
 pub mod Messages
 pub mod Sweep
+pub mod Causes
 pub mod Step
 pub mod Plant
 pub mod Laws

@@ -1,5 +1,6 @@
 -- Document 01, Causes and answers: numbered causes in order, the first that holds wins.
 use mathlib.Core.Path.{_≡_}
+use mathlib.Core.Logic.{_⊎_}
 use mathlib.Core.Bool.{Bool, true, false, _&&_, cond}
 use mathlib.Core.List.{List, [], _∷_}
 use Prim.Native.Nat.{ℕ}
@@ -34,6 +35,11 @@ unless (w ∷ ws) r o = cond (w .cause) (quiet (w .number) r) (unless ws r o)
 abbrev pub Clear : List Row → Type 0
 Clear [] = Unit {0}
 Clear (w ∷ ws) = (w .cause ≡ false) × Clear ws
+
+-- a row of this number has its cause, and no row before it has
+abbrev pub FirstCause : ℕ → List Row → Type 0
+FirstCause n [] = ⊥
+FirstCause n (w ∷ ws) = ((w .cause ≡ true) × (w .number ≡ n)) ⊎ ((w .cause ≡ false) × FirstCause n ws)
 
 -- no number is 0
 abbrev pub numbered : List Row → Bool

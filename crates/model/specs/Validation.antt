@@ -75,9 +75,12 @@ numberRows cfg =
     row 20 (auto cfg && (above (cfg .absminheat) (minus (cfg .absmincool) (deadBand cfg)) || above (cfg .absmaxheat) (minus (cfg .absmaxcool) (deadBand cfg)))) ∷
     row 21 (differ (heats cfg) (sequenceHeats cfg) || differ (cools cfg) (sequenceCools cfg)) ∷ []
 
+abbrev pub validationRows : Config → List Row
+validationRows cfg = featureRows cfg ++ (attributeRows cfg ++ (limitRows cfg ++ (eventRows cfg ++ numberRows cfg)))
+
 -- the number of a configuration: the first failure, or 0
 unfoldable pub validated : Config → ℕ
-validated cfg = firstFailing (featureRows cfg ++ (attributeRows cfg ++ (limitRows cfg ++ (eventRows cfg ++ numberRows cfg))))
+validated cfg = firstFailing (validationRows cfg)
 
 unfoldable pub accepted : Config → Bool
 accepted cfg = eqb (validated cfg) 0
