@@ -8,7 +8,7 @@ use records::EventSlot;
 use records::Events;
 use records::Notices;
 
-// A full array is left alone; the laws of model show that none is ever full.
+// A full array is left alone. No call gives more than it holds, so nothing is lost: law NothingLost of model.
 fn push(n: Notices, code: u16) -> Notices
     ensures { λ r. ⌜ r ≡ pushed n code ⌝ }
 {

@@ -4,19 +4,16 @@ use mathlib.Core.Logic.{_⊎_, inl, inr}
 use mathlib.Core.Bool.{Bool, true, false, cond}
 use mathlib.Core.List.{List, [], _∷_}
 use Prim.Native.Nat.{ℕ}
-use lib.Dec.{eqb}
 use borrow.Author.Tests.{eqb-true}
 use Rattle.model.specs.Answers.{Outcome, quiet}
 use Rattle.model.specs.Refusals.{Row, firstFailing, thenRows, unless, FirstCause, Clear, numbered}
 use Rattle.model.specs.Validation.{validationRows, featureRows, attributeRows, limitRows, eventRows, numberRows, validated, accepted}
-use Rattle.model.specs.Repair.{repairedRecord}
 use Rattle.model.specs.Writes.{applied, writeOccupiedHeatingSetpoint, writeOccupiedCoolingSetpoint, writeMinHeatSetpointLimit, writeMaxHeatSetpointLimit, writeMinCoolSetpointLimit, writeMaxCoolSetpointLimit, writeSystemMode, setControlSequenceOfOperation, raiseLowerSetpoint, armClock}
 use Rattle.model.specs.Messages.{messageTaken, heatingMessage, coolingMessage, modeMessage, limitsMessage, outOfBandMessage}
 use Rattle.model.specs.Sweep.{swept, sweep, timer, seedEvents, deadline}
 use Rattle.model.specs.Causes.{ofMessage, rowsIn, causes}
 use Rattle.model.specs.Step.{opened, step}
 use Rattle.model.specs.Laws.{ByRows, OwnCase, OpeningOwnCase}
-use Rattle.records.specs.Records.{blank}
 use Rattle.records.specs.declared.Config.{Config}
 use Rattle.records.specs.declared.Settings.{Settings}
 use Rattle.records.specs.declared.Controller.{Controller}
@@ -25,7 +22,7 @@ use Rattle.records.specs.declared.OutOfBandMessage.{OutOfBandMessage}
 use Rattle.records.specs.declared.OutOfBandMessage.the-variants.{LocalTemperature, RunningState, Update, OccupiedHeatingSetpoint, OccupiedCoolingSetpoint, SystemMode, SetpointLimits}
 use Rattle.records.specs.declared.Call.{Call}
 use Rattle.records.specs.declared.Call.the-variants.{WriteOccupiedHeatingSetpoint, WriteOccupiedCoolingSetpoint, WriteMinHeatSetpointLimit, WriteMaxHeatSetpointLimit, WriteMinCoolSetpointLimit, WriteMaxCoolSetpointLimit, WriteSystemMode, SetControlSequenceOfOperation, RaiseLowerSetpoint, ArmClock, OutOfBand, SeedEvents, Sweep, Timer, Deadline}
-use Rattle.model.proofs.Logic.{clear}
+use Rattle.model.proofs.Logic.{by-cond, clear}
 use Rattle.model.proofs.Refused.{swept-done}
 
 -- the first failing row is the first whose cause holds
@@ -99,11 +96,7 @@ own-case cfg r d k = by-number _ (causes cfg r d k) refl (step-number cfg r d k)
 
 opened-number : (cfg : Config) (s : Settings) → opened cfg s .number ≡ validated cfg
 unfolding opened accepted
-opened-number cfg s = go (eqb (validated cfg) 0) refl
-  where
-    go : (t : Bool) → eqb (validated cfg) 0 ≡ t → cond t (repairedRecord cfg blank (record { settings = s; dirty = false })) (quiet (validated cfg) blank) .number ≡ validated cfg
-    go true e = sym (eqb-true (validated cfg) 0 e)
-    go false e = refl
+opened-number cfg s = by-cond (λ (o : Outcome). o .number ≡ validated cfg) (accepted cfg) _ _ (λ e. sym (eqb-true (validated cfg) 0 e)) (λ e. refl)
 
 pub opening-own-case : OpeningOwnCase
 unfolding validated featureRows attributeRows limitRows eventRows numberRows

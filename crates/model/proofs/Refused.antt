@@ -14,7 +14,6 @@ use Rattle.model.specs.Writes.{applied, namesAbsentSide, raiseSides, wri
 use Rattle.model.specs.Messages.{messageTaken, heatingMessage, coolingMessage, modeMessage, limitsMessage, outOfBandMessage}
 use Rattle.model.specs.Sweep.{noticeTable, tableNotices, sweepEvents, swept, notify, sweep, timer, seedEvents, deadline}
 use Rattle.model.specs.Validation.{validated, accepted}
-use Rattle.model.specs.Repair.{repairedRecord}
 use Rattle.model.specs.Step.{opened, step}
 use Rattle.model.specs.Laws.{Refused, DoneOrRefused, OpenedOrRefused, UnsoundRefused}
 use Rattle.model.specs.Sound.{sound, unsound}
@@ -24,7 +23,7 @@ use Rattle.records.specs.declared.Readings.{Readings}
 use Rattle.records.specs.declared.OutOfBandMessage.{OutOfBandMessage}
 use Rattle.records.specs.declared.OutOfBandMessage.the-variants.{LocalTemperature, RunningState, Update, OccupiedHeatingSetpoint, OccupiedCoolingSetpoint, SystemMode, SetpointLimits}
 use Rattle.records.specs.declared.Call.the-variants.{WriteOccupiedHeatingSetpoint, WriteOccupiedCoolingSetpoint, WriteMinHeatSetpointLimit, WriteMaxHeatSetpointLimit, WriteMinCoolSetpointLimit, WriteMaxCoolSetpointLimit, WriteSystemMode, SetControlSequenceOfOperation, RaiseLowerSetpoint, ArmClock, OutOfBand, SeedEvents, Sweep, Timer, Deadline}
-use Rattle.model.proofs.Logic.{by-refusal}
+use Rattle.model.proofs.Logic.{by-cond, by-refusal}
 
 module _ (cfg : Config) (r : Controller) (d : Readings) where
   abbrev Either : Outcome → Type 0
@@ -104,11 +103,6 @@ unsound-refused cfg r d Deadline e = first-28 cfg r _ _ e
 -- a refused opening returns its row's number and blank
 pub opened-or-refused : OpenedOrRefused
 unfolding opened accepted
-opened-or-refused cfg s = go (eqb (validated cfg) 0) refl
-  where
-    go : (t : Bool) → eqb (validated cfg) 0 ≡ t
-        → ((t ≡ true) × (cond t (repairedRecord cfg blank (record { settings = s; dirty = false })) (quiet (validated cfg) blank) .number ≡ 0))
-        ⊎ ((t ≡ false) × (cond t (repairedRecord cfg blank (record { settings = s; dirty = false })) (quiet (validated cfg) blank) .number ≡ 0 → ⊥)
-        × (cond t (repairedRecord cfg blank (record { settings = s; dirty = false })) (quiet (validated cfg) blank) ≡ quiet (cond t (repairedRecord cfg blank (record { settings = s; dirty = false })) (quiet (validated cfg) blank) .number) blank))
-    go true e = inl (refl, refl)
-    go false e = inr (refl, eqb-false (validated cfg) 0 e, refl)
+opened-or-refused cfg s =
+    by-cond (λ (o : Outcome). ((accepted cfg ≡ true) × (o .number ≡ 0)) ⊎ ((accepted cfg ≡ false) × (validated cfg ≡ 0 → ⊥) × (o ≡ quiet (validated cfg) blank))) (accepted cfg) _ _
+    (λ e. inl (e, refl)) (λ e. inr (e, eqb-false (validated cfg) 0 e, refl))

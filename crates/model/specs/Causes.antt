@@ -1,4 +1,4 @@
--- Document 01, Causes and answers: rows 22 to 28, for each call what its causes are. The calls' own definitions test them where they stand;
+-- Document 01, Causes and answers: rows 22 to 28, for each call what its causes are; names are those of `answer_number`. The calls' own definitions test them where they stand;
 -- law `OwnCase` says that a call's number is that of this table.
 use mathlib.Core.Bool.{Bool, false, not}
 use mathlib.Core.List.{List, [], _∷_}
@@ -20,17 +20,17 @@ use Rattle.records.specs.declared.Call.the-variants.{WriteOccupiedHeatingSetpoi
 
 -- what can refuse a call beside row 28, each with its number
 pub record Causes : Type 0 where
-  -- 27: sweep or timer at more than 18446744073709491615 ms
+  -- 27 CLOCK_TOO_LATE: sweep or timer at more than 18446744073709491615 ms
   pub late : Bool
-  -- 24: write to an unserved attribute
+  -- 24 UNSERVED_ATTRIBUTE: write to an unserved attribute
   pub unserved : Bool
-  -- 25: raise/lower mode above 2
+  -- 25 UNKNOWN_RAISE_LOWER_MODE: raise/lower mode above 2
   pub unknown : Bool
-  -- 23: raise/lower names an absent side
+  -- 23 ABSENT_SIDE: raise/lower names an absent side
   pub absent : Bool
-  -- 22: write outside its rule
+  -- 22 OUTSIDE_RULE: write outside its rule
   pub outside : Bool
-  -- 26: out-of-band mode unsupported
+  -- 26 UNSUPPORTED_MODE: out-of-band mode unsupported
   pub unsupported : Bool
 
 abbrev pub none : Causes
@@ -72,7 +72,7 @@ ofCall cfg s d Sweep = ofClock d
 ofCall cfg s d Timer = ofClock d
 ofCall cfg s d Deadline = none
 
--- order: 28, 27, 24, then 25, 23, 22 or 26
+-- order: 28 UNSOUND_RECORD, 27, 24, then 25, 23, 22 or 26
 abbrev pub rowsIn : Bool → Causes → List Row
 rowsIn unsound c = row 28 unsound ∷ row 27 (c .late) ∷ row 24 (c .unserved) ∷ row 25 (c .unknown) ∷ row 23 (c .absent) ∷ row 22 (c .outside) ∷ row 26 (c .unsupported) ∷ []
 

@@ -9,7 +9,7 @@ use Rattle.records.specs.Records.{blank}
 use Rattle.model.specs.Answers.{Outcome, slot, answer, quiet}
 use Rattle.model.specs.Refusals.{Row, FirstCause, Clear}
 use Rattle.model.specs.Attribution.{armedClock}
-use Rattle.model.specs.Validation.{validationRows, accepted}
+use Rattle.model.specs.Validation.{validationRows, validated, accepted}
 use Rattle.model.specs.Repair.{repaired, limitNumbers, writtenLimits}
 use Rattle.model.specs.Sound.{sound}
 use Rattle.model.specs.Causes.{causes}
@@ -46,12 +46,12 @@ Refused cfg r d o =
 abbrev pub DoneOrRefused : Type 0
 DoneOrRefused = (cfg : Config) (r : Controller) (d : Readings) (k : Call) → (step cfg r d k .number ≡ 0) ⊎ Refused cfg r d (step cfg r d k)
 
--- an opening is done, or refused: a number that is not 0, the blank record and nothing else
+-- an opening is done, or refused: its row's number, which is not 0, the blank record and nothing else
 abbrev pub OpenedOrRefused : Type 0
 OpenedOrRefused =
     (cfg : Config) (s : Settings)
     → ((accepted cfg ≡ true) × (opened cfg s .number ≡ 0))
-    ⊎ ((accepted cfg ≡ false) × (opened cfg s .number ≡ 0 → ⊥) × (opened cfg s ≡ quiet (opened cfg s .number) blank))
+    ⊎ ((accepted cfg ≡ false) × (validated cfg ≡ 0 → ⊥) × (opened cfg s ≡ quiet (validated cfg) blank))
 
 -- a number that is not 0 comes exactly where its row's cause holds and no row before it does; 0 exactly where no cause holds
 abbrev pub ByRows : ℕ → List Row → Type 0

@@ -38,7 +38,7 @@ heatingMessage cfg r v = quiet 0 (raiseBits (withAttrs r (setHeating (r .attrs) 
 unfoldable pub coolingMessage : Config → Controller → Hundredths → Outcome
 coolingMessage cfg r v = quiet 0 (raiseBits (withAttrs r (setCooling (r .attrs) (clampCoolSetpoint cfg (r .attrs .settings) (widened v)))) 0x004)
 
--- a supported mode is stored without plant order; an unsupported one is 26
+-- a supported mode is stored without plant order; an unsupported one is 26 UNSUPPORTED_MODE
 unfoldable pub modeMessage : Config → Controller → ℕ → Outcome
 modeMessage cfg r v = unless (row 26 (not (isSupportedSystemMode cfg v)) ∷ []) r (quiet 0 (raiseBits (withAttrs r (setMode (r .attrs) v)) 0x008))
 

@@ -1,4 +1,4 @@
--- Document 01, row 28: what every record has that an opening or a call leaves.
+-- Document 01, row 28 UNSOUND_RECORD: what every record has that an opening or a call leaves.
 use mathlib.Core.Bool.{Bool, true, not, _&&_, _||_}
 use Prim.Native.Nat.{ℕ}
 use lib.Dec.{leb}

@@ -32,7 +32,7 @@ use Rattle.records.specs.declared.NoticeRow.{NoticeRow}
 use Rattle.records.specs.declared.Controller.{Controller}
 use Rattle.records.specs.declared.Readings.{Readings}
 
--- the fixed notice table: bit and attribute code, ten rows
+-- the fixed notice table: bit (pending_bit) and attribute code (attribute_id), ten rows
 abbrev pub noticeRow : ℕ → ℕ → NoticeRow
 noticeRow b c = record { bit = b; code = c }
 
@@ -151,7 +151,7 @@ takenFrom cfg d r (Seeded old) =
 unfoldable pub takeEvents : Config → Readings → Controller → Taken
 takeEvents cfg d r = takenFrom cfg d r (r .events .shadow)
 
--- 27: a clock to which 60,000 ms cannot be added
+-- 27 CLOCK_TOO_LATE: a clock to which 60,000 ms cannot be added
 abbrev pub late : Readings → Row
 late d = row 27 (ltb lastClock (d .clock))
 

@@ -17,7 +17,7 @@ abbrev pub differ : Bool → Bool → Bool
 differ true b = not b
 differ false b = b
 
--- 1 revision, 2 feature beyond HEAT, COOL, AUTO, LTNE, TEVT, 3 neither HEAT nor COOL, 4 AUTO without both
+-- 1 REVISION is not 11, 2 UNKNOWN_FEATURE beyond HEAT, COOL, AUTO, LTNE, TEVT, 3 NO_SIDE: neither HEAT nor COOL, 4 AUTO_WITHOUT_BOTH_SIDES
 unfoldable pub featureRows : Config → List Row
 featureRows cfg =
     row 1 (not (eqb (cfg .revision) 11)) ∷
@@ -25,7 +25,7 @@ featureRows cfg =
     row 3 (not (heats cfg || cools cfg)) ∷
     row 4 (auto cfg && not (heats cfg && cools cfg)) ∷ []
 
--- 5 missing, 6 without its feature
+-- 5 ATTRIBUTE_MISSING, 6 ATTRIBUTE_WITHOUT_FEATURE
 abbrev pub attributeRow : Config → ℕ → Bool → List Row
 attributeRow cfg code wanted = row 5 (wanted && not (serves cfg code)) ∷ row 6 (not wanted && serves cfg code) ∷ []
 
@@ -39,7 +39,8 @@ attributeRows cfg =
     (attributeRow cfg 0x11 (cools cfg) ++
     attributeRow cfg 0x19 (auto cfg)))))
 
--- 7 some but not all four limits of a side, 8 limits without HEAT or COOL, 9 AUTO with limits of one side only, 10 ThermostatRunningMode without AUTO
+-- 7 LIMITS_INCOMPLETE: some but not all four of a side, 8 LIMITS_WITHOUT_SIDE: without HEAT or COOL, 9 LIMITS_OF_ONE_SIDE with AUTO,
+-- 10 RUNNING_MODE_WITHOUT_AUTO
 unfoldable pub limitRows : Config → List Row
 limitRows cfg =
     row 7 ((someHeatLimit cfg && not (hasHeatLimits cfg)) || (someCoolLimit cfg && not (hasCoolLimits cfg))) ∷
@@ -47,14 +48,14 @@ limitRows cfg =
     row 9 (auto cfg && differ (hasHeatLimits cfg) (hasCoolLimits cfg)) ∷
     row 10 (serves cfg 0x1E && not (auto cfg)) ∷ []
 
--- 12 served without TEVT, 13 served where it does not apply, 14 TEVT and not served where it applies
+-- 12 EVENT_WITHOUT_FEATURE: served without TEVT, 13 EVENT_NOT_APPLICABLE: served where it does not apply, 14 EVENT_MISSING: TEVT and not served where it applies
 abbrev pub eventRow : Config → ℕ → Bool → List Row
 eventRow cfg code applies =
     row 12 (emits cfg code && not (supportsEvents cfg)) ∷
     row 13 (emits cfg code && not applies) ∷
     row 14 (supportsEvents cfg && (applies && not (emits cfg code))) ∷ []
 
--- 11 Occupancy, ActiveSchedule or ActivePreset; then mode, temperature, setpoint, relays, running mode; 15 event delta below 0
+-- 11 EVENT_UNKNOWN: Occupancy, ActiveSchedule or ActivePreset; then mode, temperature, setpoint, relays, running mode; 15 NEGATIVE_DELTA
 unfoldable pub eventRows : Config → List Row
 eventRows cfg =
     row 11 (emits cfg 2 || (emits cfg 6 || emits cfg 7)) ∷
@@ -65,7 +66,7 @@ eventRows cfg =
     (eventRow cfg 5 (auto cfg) ++
     (row 15 (less (cfg .delta) zeroHundredths) ∷ []))))))
 
--- 16 no SetpointRaiseLower, 17 and 18 ABS_MIN > ABS_MAX, 19 and 20 the dead band, 21 sequence and features
+-- 16 NO_RAISE_LOWER, 17 HEAT_RANGE_EMPTY and 18 COOL_RANGE_EMPTY: ABS_MIN > ABS_MAX, 19 NEGATIVE_DEAD_BAND, 20 ABS_LIMITS_TOO_CLOSE, 21 SEQUENCE_MISMATCH
 unfoldable pub numberRows : Config → List Row
 numberRows cfg =
     row 16 (not (listed (cfg .commands) 0)) ∷

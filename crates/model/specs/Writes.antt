@@ -24,7 +24,7 @@ use Rattle.records.specs.declared.Moment.the-variants.{Never}
 use Rattle.records.specs.declared.Controller.{Controller}
 use Rattle.records.specs.declared.Readings.{Readings}
 
--- 0x29 and 0x1E if the counted relays differ between the readings before and after
+-- THERMOSTAT_RUNNING_STATE and THERMOSTAT_RUNNING_MODE if the counted relays differ between the readings before and after
 unfoldable pub relayNotices : Config → Readings → List ℕ
 relayNotices cfg d = onlyIf (not (eqb (runningState cfg (d .relaysbefore)) (runningState cfg (d .relaysafter)))) (noticed cfg 0x29 ++ noticed cfg 0x1E)
 
@@ -39,7 +39,7 @@ applied cfg d s = record {
   deadline = Never;
 }
 
--- the three notices of a recorded change
+-- the three notices of a recorded change: its source, amount and timestamp
 unfoldable pub sourceNotices : Config → List ℕ
 sourceNotices cfg = noticed cfg 0x30 ++ (noticed cfg 0x31 ++ noticed cfg 0x32)
 
@@ -83,7 +83,7 @@ storeCoolingSetpoint cfg d source v r =
       notices = onlyIf moved (noticed cfg 0x11 ++ sourceNotices cfg) ++ onlyIf (changedTo (s .heating) other) (noticed cfg 0x12);
     }
 
--- 24: write to an unserved attribute
+-- 24 UNSERVED_ATTRIBUTE
 abbrev pub unserved : Config → ℕ → Row
 unserved cfg code = row 24 (not (serves cfg code))
 
@@ -173,7 +173,7 @@ maxCoolRows cfg r v = limitWriteRows cfg r 0x18 (maxCoolRefused cfg (r .attrs .s
 unfoldable pub writeMaxCoolSetpointLimit : Config → Controller → Readings → Hundredths → Outcome
 writeMaxCoolSetpointLimit cfg r d v = limitWrite cfg r d (maxCoolRows cfg r v) (limitStored cfg r (setMaxCool (r .attrs) v) 0x18) (pullCooling cfg d)
 
--- 0x1C last, always
+-- SYSTEM_MODE last, always
 abbrev pub thenNoticed : Config → ℕ → Outcome → Outcome
 thenNoticed cfg code o = record { number = o .number; rec = o .rec; order = o .order; notices = o .notices ++ noticed cfg code; events = o .events; deadline = o .deadline }
 
