@@ -1,4 +1,4 @@
--- Every setpoint stays in its band, and the gap is kept unless shortGapAllowed, over whole lists.
+-- Every setpoint stays in its band, and the gap is kept unless a short one is allowed, over whole lists.
 use mathlib.Core.Path.{_≡_, refl, sym, _∙_, subst}
 use mathlib.Core.Bool.{Bool, true, false, _||_, cond}
 use mathlib.Core.List.{List, [], _∷_}

@@ -1,5 +1,5 @@
--- Document 01, Causes and answers: rows 22 to 28, for each call what its causes are; names are those of `answer_number`. The calls' own definitions test them where they stand;
--- law `OwnCase` says that a call's number is that of this table.
+-- Document 01, Causes and answers: rows 22 to 28, for each call what its causes are, under the names of `answer_number`. The calls' own
+-- definitions test them where they stand; law `OwnCase` says that a call's number is that of this table.
 use mathlib.Core.Bool.{Bool, false, not}
 use mathlib.Core.List.{List, [], _∷_}
 use lib.Dec.{ltb}

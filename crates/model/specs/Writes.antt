@@ -118,7 +118,7 @@ unfoldable pub pullSide : Bool → Config → Readings → Controller → Stage
 pullSide true = pullHeating
 pullSide false = pullCooling
 
--- a limit write: refused where its attribute is unserved or its value is refused; else the limit is stored and noticed, then pulls
+-- a limit write: refused where its attribute is unserved or its value is outside its rule; else the limit is stored and noticed, then pulls
 abbrev pub limitWriteRows : Config → Controller → ℕ → Bool → List Row
 limitWriteRows cfg r code refused = unsound cfg r ∷ unserved cfg code ∷ row 22 refused ∷ []
 
