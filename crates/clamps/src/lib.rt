@@ -9,39 +9,31 @@ use units::Wide;
 pub fn in_heat_limits(cfg: Config, s: Settings, v: Hundredths) -> bool
     ensures { λ r. ⌜ r ≡ inHeatLimits cfg s v ⌝ }
 {
-    ranges::is_within(
-        v,
-        limits::min_heat_setpoint(cfg, s),
-        limits::max_heat_setpoint(cfg, s),
-    )
+    let minheat = limits::min_heat_setpoint(cfg, s);
+    let maxheat = limits::max_heat_setpoint(cfg, s);
+    ranges::is_within(v, minheat, maxheat)
 }
 
 pub fn in_cool_limits(cfg: Config, s: Settings, v: Hundredths) -> bool
     ensures { λ r. ⌜ r ≡ inCoolLimits cfg s v ⌝ }
 {
-    ranges::is_within(
-        v,
-        limits::min_cool_setpoint(cfg, s),
-        limits::max_cool_setpoint(cfg, s),
-    )
+    let mincool = limits::min_cool_setpoint(cfg, s);
+    let maxcool = limits::max_cool_setpoint(cfg, s);
+    ranges::is_within(v, mincool, maxcool)
 }
 
 pub fn clamp_heat_setpoint(cfg: Config, s: Settings, v: Wide) -> Hundredths
     ensures { λ r. ⌜ r ≡ clampHeatSetpoint cfg s v ⌝ }
 {
-    ranges::clamp(
-        v,
-        limits::min_heat_setpoint(cfg, s),
-        limits::max_heat_setpoint(cfg, s),
-    )
+    let minheat = limits::min_heat_setpoint(cfg, s);
+    let maxheat = limits::max_heat_setpoint(cfg, s);
+    ranges::clamp(v, minheat, maxheat)
 }
 
 pub fn clamp_cool_setpoint(cfg: Config, s: Settings, v: Wide) -> Hundredths
     ensures { λ r. ⌜ r ≡ clampCoolSetpoint cfg s v ⌝ }
 {
-    ranges::clamp(
-        v,
-        limits::min_cool_setpoint(cfg, s),
-        limits::max_cool_setpoint(cfg, s),
-    )
+    let mincool = limits::min_cool_setpoint(cfg, s);
+    let maxcool = limits::max_cool_setpoint(cfg, s);
+    ranges::clamp(v, mincool, maxcool)
 }

@@ -16,8 +16,8 @@ pub fn is_heat_limit_refused(
 {
     let inside = ranges::is_within(v, lo, hi);
     let auto = features::auto(cfg);
-    let near = units::is_above(v, units::sub(other, limits::dead_band(cfg)));
-    !inside | (auto & near)
+    let too_high = units::is_above(v, units::sub(other, limits::dead_band(cfg)));
+    !inside | (auto & too_high)
 }
 
 pub fn is_cool_limit_refused(
@@ -31,6 +31,6 @@ pub fn is_cool_limit_refused(
 {
     let inside = ranges::is_within(v, lo, hi);
     let auto = features::auto(cfg);
-    let near = units::is_below(v, units::add(other, limits::dead_band(cfg)));
-    !inside | (auto & near)
+    let too_low = units::is_below(v, units::add(other, limits::dead_band(cfg)));
+    !inside | (auto & too_low)
 }

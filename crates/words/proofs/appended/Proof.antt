@@ -1,11 +1,17 @@
 -- `words::appended` meets its contract. Assumes nothing.
 use Prim.Native.Nat.{_+_, _*_, _-_, _^_, _<_, _≤_}
 use native.Mathlib.Omega.{arith}
+use mathlib.Core.Path.{_≡_, refl}
+use mathlib.Core.Bool.{Bool, true, false, _&&_}
 use borrow.Author.Needs.{needs}
 use borrow.Author.Tests.{lt-ltb, le-ltb, le-leb, lt-leb}
 use Rattle.words.specs.Words.{appendedOf}
 use Rattle.words.proofs.appended.Statement.{statement}
 use Rattle.words.proofs.appended.Tie as tie
+
+&&-false : (b : Bool) → (b && false) ≡ false
+&&-false true = refl
+&&-false false = refl
 
 returns : tie.Need-returns
 unfolding appendedOf
@@ -13,14 +19,16 @@ returns c = simp (lt-leb _ _ (c .if1 .taken))
 
 returns-2 : tie.Need-returns-2
 unfolding appendedOf
-returns-2 c = simp (le-leb _ _ (c .before .if1 .left), lt-leb _ _ (c .if2 .taken))
+returns-2 c =
+    let above : 57 < c .before .before .args .byte = omega arith in
+    simp (le-leb _ _ (c .before .if1 .left), lt-leb _ _ above)
 
 returns-3 : tie.Need-returns-3
 unfolding appendedOf
 returns-3 c =
     let b = c .before .before .before in
     let over : 2 ^ 64 ≤ b .args .size * 10 + (b .args .byte - 48) = omega arith in
-    simp (le-leb _ _ (c .before .before .if1 .left), le-leb _ _ (c .before .if2 .left), le-ltb _ _ over)
+    simp (&&-false, le-ltb _ _ over)
 
 returns-4 : tie.Need-returns-4
 unfolding appendedOf
