@@ -1,7 +1,6 @@
 // The call that a line names.
 use crate::fields::Fields;
 use crate::forms;
-use crate::signed::as_tenths;
 use records::Call;
 use records::OutOfBandMessage;
 
@@ -37,7 +36,7 @@ pub(crate) fn call_of(f: Fields) -> Call {
         forms::MAX_COOL => Call::WriteMaxCoolSetpointLimit(h),
         forms::MODE => Call::WriteSystemMode(b),
         forms::SEQUENCE => Call::SetControlSequenceOfOperation(b),
-        forms::RAISE => Call::RaiseLowerSetpoint(b, as_tenths(f.hundredths(1))),
+        forms::RAISE => Call::RaiseLowerSetpoint(b, f.tenths(1)),
         forms::ARM => Call::ArmClock,
         forms::START => Call::SeedEvents,
         forms::SWEEP => Call::Sweep,

@@ -1,5 +1,7 @@
 // The words of a line, held to its form.
+ghost use mathlib.Core.Path.{_≡_};
 ghost use Prim.Native.Nat.{_<_};
+ghost use Rattle.lines.specs.Numbers.{numberAt};
 use crate::forms;
 use crate::forms::NUMBERS;
 use crate::letters;
@@ -57,7 +59,9 @@ impl Fields {
         m
     }
 
-    pub(crate) fn at(self, i: usize) -> Number {
+    pub(crate) fn at(self, i: usize) -> Number
+        ensures { λ r. ⌜ r ≡ numberAt self i ⌝ }
+    {
         if i < NUMBERS {
             return self.slots[i];
         }

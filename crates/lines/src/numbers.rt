@@ -2,35 +2,38 @@
 // letters of a form keep both out.
 ghost use mathlib.Core.Path.{_≡_};
 ghost use Prim.Native.Nat.{_<_};
-ghost use mir.Syntax.{w16};
+ghost use mir.Syntax.{w8, w16};
 ghost use mir.Val.{SFits};
 ghost use Rattle.words.specs.Words.{sizeOf, valueOf, isGiven};
+ghost use Rattle.lines.specs.Numbers.{signedAt};
 use crate::fields::Fields;
 use crate::signed;
+use crate::signed::SignedNumber;
 use records::Amount;
 use records::Moment;
 use records::Second;
 use records::Temperature;
 use units::Hundredths;
+use units::Tenths;
 use words::Field;
 
 pub struct Number {
     pub given: bool,
     pub size: u64,
-    pub signed: Hundredths,
+    pub signed: SignedNumber,
 }
 
 impl Number {
     pub const NONE: Number = Number {
         given: false,
         size: 0,
-        signed: Hundredths(0),
+        signed: SignedNumber(0),
     };
 
     pub const ZERO: Number = Number {
         given: true,
         size: 0,
-        signed: Hundredths(0),
+        signed: SignedNumber(0),
     };
 }
 
@@ -83,7 +86,7 @@ fn as_byte(n: u64) -> u8
     0
 }
 
-// The number at place `i` of a line.
+// The number at place `i` of a line. A signed one gets its unit here.
 impl Fields {
     pub(crate) fn quad(self, i: usize) -> u64 {
         let n = self.at(i);
@@ -98,9 +101,16 @@ impl Fields {
         as_byte(self.quad(i))
     }
 
-    pub(crate) fn hundredths(self, i: usize) -> Hundredths {
-        let n = self.at(i);
-        n.signed
+    pub(crate) fn hundredths(self, i: usize) -> Hundredths
+        ensures { λ r. ⌜ r .0 ≡ signedAt self i ⌝ }
+    {
+        signed::as_hundredths(self.at(i).signed)
+    }
+
+    pub(crate) fn tenths(self, i: usize) -> Tenths
+        ensures { λ r. ⌜ (SFits w8 (signedAt self i) → r .0 ≡ signedAt self i) ⌝ }
+    {
+        signed::as_tenths(self.at(i).signed)
     }
 
     pub(crate) fn temperature(self, i: usize) -> Temperature {

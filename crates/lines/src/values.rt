@@ -1,7 +1,6 @@
 // The numbers of a sound line as the values that they stand for.
 use crate::fields::Fields;
 use crate::numbers::as_double;
-use crate::signed::as_tenths;
 use records::Attributed;
 use records::Attrs;
 use records::Config;
@@ -24,7 +23,7 @@ pub(crate) fn config_of(f: Fields) -> Config {
         absmaxheat: f.hundredths(6),
         absmincool: f.hundredths(7),
         absmaxcool: f.hundredths(8),
-        deadband: as_tenths(f.hundredths(9)),
+        deadband: f.tenths(9),
         sequence: f.byte(10),
         delta: f.hundredths(11),
     }

@@ -1,26 +1,23 @@
--- `lines::signed::negative` meets its contract: below 32768 the difference from zero is within 16 bits. Assumes nothing.
+-- `lines::signed::negative` meets its contract. Assumes nothing.
 use Prim.Native.Nat.{ℕ, _<_}
 use native.Mathlib.Omega.{arith}
-use mathlib.Core.Path.{_≡_, _∙_, ap}
-use lib.IntN.{ℤ, pos, negsuc, _-ℤ_}
+use lib.IntN.{pos, _-ℤ_}
+use mir.Syntax.{w16}
+use mir.Val.{SFits}
+use mir.Facts.{toZ-pos, toZ-ofZ}
 use Rattle.integers.specs.Linear.{linear, diff-parts}
-use Rattle.integers.specs.Clamp.{clampZ, clamp-within}
-use Rattle.units.specs.Units.{saturatedDifference, clamped, minus}
-use Rattle.units.specs.declared.Hundredths.{Hundredths}
 use Rattle.lines.proofs.signed.negative.Statement.{statement}
 use Rattle.lines.proofs.signed.negative.Tie as tie
 
-unclamped : (n : ℕ) → n < 32768 → clampZ (pos 0 -ℤ pos n) (negsuc 32767) (pos 32767) ≡ pos 0 -ℤ pos n
-unclamped n h = clamp-within _ _ _ (omega (linear, diff-parts (pos 0) (pos n))) (omega (linear, diff-parts (pos 0) (pos n)))
-
-returns-2 : tie.Need-returns-2
-unfolding saturatedDifference clamped minus
-returns-2 c = λ h.
-    let n = c .before .before .before .args .n in
-    let l : n < 32768 = omega arith in
-    ap (λ (v : Hundredths). v .0) (c .saturating-sub .ensures)
-    ∙ ap (λ (z : ℤ). clampZ (pos 0 -ℤ z) (negsuc 32767) (pos 32767)) (c .before .positive .ensures l)
-    ∙ unclamped n l
+opposite : (n : ℕ) → n < 32768 → SFits w16 (pos 0 -ℤ pos n)
+opposite n h = omega (linear, diff-parts (pos 0) (pos n))
 
 pub negative-spec : {M : Type 1} → statement M
-negative-spec = tie.close (tie.spec (λ c. λ h. rw (c .if1 .taken)) (λ c κs. tt) (λ c κs. tt) returns-2)
+negative-spec =
+    tie.close
+    (tie.spec
+    (λ c. λ h. rw (c .if1 .taken))
+    (λ c. omega arith)
+    (λ c. rw (toZ-pos w16 (c .if2 .taken)) (omega (linear, diff-parts (pos 0) (pos (c .before .before .args .n)))))
+    (λ c. λ h. rw (toZ-pos w16 (c .if2 .taken)) (toZ-ofZ (opposite _ (c .if2 .taken))))
+    (λ c. λ h. absurd (omega arith)))
