@@ -3,7 +3,7 @@ ghost use mir.Syntax.{w16};
 ghost use mir.Val.{SFits};
 ghost use mathlib.Core.Path.{_≡_};
 ghost use lib.Signed.{ltZ};
-ghost use Rattle.units.specs.Units.{hundredths, less, below, above, greater, lesser, clamped, saturatedDifference, within};
+ghost use Rattle.units.specs.Units.{hundredths, greater, lesser, clamped, saturatedDifference, within};
 use units::Hundredths;
 use units::Wide;
 
