@@ -8,16 +8,6 @@ ghost use Rattle.load.specs.Arguments.{Below};
 use arguments::Read;
 use records::Settings;
 use totals::Load;
-use units::Hundredths;
-
-// A setpoint of this plant is never below 0.
-fn whole(v: Hundredths) -> u64 {
-    let x = v.0;
-    if x < 0 {
-        return 0;
-    }
-    x as u64
-}
 
 fn print_after(name: &[u8], n: u64) {
     io::write_all(1, name);
@@ -25,12 +15,12 @@ fn print_after(name: &[u8], n: u64) {
 }
 
 fn print_settings(s: Settings) {
-    print_after(b"settings ", whole(s.heating));
-    print_after(b" ", whole(s.cooling));
-    print_after(b" ", whole(s.minheat));
-    print_after(b" ", whole(s.maxheat));
-    print_after(b" ", whole(s.mincool));
-    print_after(b" ", whole(s.maxcool));
+    print_after(b"settings ", plant::whole(s.heating));
+    print_after(b" ", plant::whole(s.cooling));
+    print_after(b" ", plant::whole(s.minheat));
+    print_after(b" ", plant::whole(s.maxheat));
+    print_after(b" ", plant::whole(s.mincool));
+    print_after(b" ", plant::whole(s.maxcool));
     print_after(b" ", s.mode as u64);
 }
 

@@ -1,21 +1,13 @@
 // The load: calls on one record, a sweep after every 16, and what their answers sum up to.
 ghost use mathlib.Core.Path.{_≡_};
 ghost use Prim.Native.Nat.{_+_, _%_, _<_, _≤_};
-ghost use Rattle.model.specs.Plant as spec;
 ghost use Rattle.load.specs.Totals.{oneIf, ordersOf, counted, chosenOf, turned, startedOf, loadOf, turnsOf, TotalsBounded};
 use crate::draws;
 use crate::draws::Drawn;
 use records::Answer;
 use records::Call;
-use records::Config;
 use records::Controller;
 use records::Order;
-use records::Readings;
-use records::Second;
-use records::Settings;
-use records::Temperature;
-use units::Hundredths;
-use units::Tenths;
 
 // The last seed, the record, and the totals.
 pub struct Load {
@@ -25,52 +17,6 @@ pub struct Load {
     pub notices: u64,
     pub orders: u64,
     pub events: u64,
-}
-
-fn plant() -> Config
-    ensures { λ r. ⌜ r ≡ spec.plant ⌝ }
-{
-    Config {
-        revision: 11,
-        features: 0x223,
-        attributes: 1972525402030201,
-        events: 59,
-        commands: 1,
-        absminheat: Hundredths(700),
-        absmaxheat: Hundredths(2900),
-        absmincool: Hundredths(1600),
-        absmaxcool: Hundredths(3200),
-        deadband: Tenths(25),
-        sequence: 4,
-        delta: Hundredths(50),
-    }
-}
-
-fn settings() -> Settings
-    ensures { λ r. ⌜ r ≡ spec.plantSettings 2000 2250 ⌝ }
-{
-    Settings {
-        heating: Hundredths(2000),
-        cooling: Hundredths(2250),
-        minheat: Hundredths(700),
-        maxheat: Hundredths(2900),
-        mincool: Hundredths(1600),
-        maxcool: Hundredths(3200),
-        mode: 1,
-    }
-}
-
-fn no_readings() -> Readings
-    ensures { λ r. ⌜ r ≡ spec.noReadings ⌝ }
-{
-    Readings {
-        relaysbefore: 0,
-        relaysafter: 0,
-        temperature: Temperature::NoReading,
-        hook: Second::NoSecond,
-        node: Second::NoSecond,
-        clock: 0,
-    }
 }
 
 fn one_if(t: bool) -> u64
@@ -129,14 +75,14 @@ fn turn(l: Load, sweep: bool) -> Load
 {
     let d = choose(sweep, l.seed);
     let k = d.call;
-    let a = controller::step(plant(), l.rec, no_readings(), k);
+    let a = controller::step(plant::plant(), l.rec, plant::no_readings(), k);
     count(l, sweep, d.seed, a)
 }
 
 fn start(seed: u32) -> Load
     ensures { λ r. ⌜ r ≡ startedOf seed ⌝ }
 {
-    let a = opening::open(plant(), settings());
+    let a = opening::open(plant::plant(), plant::settings());
     let r = a.rec;
     Load {
         seed: seed,

@@ -1,5 +1,4 @@
 use mathlib.Core.Path.{subst}
-use borrow.Author.Needs.{needs}
 use Rattle.load.specs.Arguments.{Below}
 use Rattle.load.specs.declared.arguments.Read.{Read}
 use Rattle.load.proofs.load_read.Statement.{statement}
@@ -14,13 +13,13 @@ pub load-read-spec : {M : Type 1} → statement M
 load-read-spec =
     tie.close
     (tie.spec
-    (λ c. search needs)
+    (λ c. c .match .keys1)
     (λ c κs. tt)
-    (λ c. search needs)
-    (λ c. search needs)
+    (λ c. c .match .keys2)
+    (λ c. c .match2 .keys1)
     (λ c κs. tt)
-    (λ c. search needs)
+    (λ c. c .match2 .keys2)
     load-requires
-    (λ c. search needs)
-    (λ c. search needs)
-    (λ c. search needs))
+    (λ c. tt)
+    (λ c. tt)
+    (λ c. tt))

@@ -1,0 +1,44 @@
+-- Each outcome's line is in the table: the lines of the definitions are the table's, by `acceptance`, and no setpoint there is below 0.
+use mathlib.Core.Path.{_≡_, sym, ap, subst}
+use mathlib.Core.List.{List, [], _∷_, List·Memᴰ, List·Memᴰ·head, List·Memᴰ·tail, map, foldl, foldl-append}
+use Prim.Native.Nat.{ℕ, zero, suc, _+_, _≤_, _<_}
+use native.Mathlib.Omega.{arith}
+use native.Mathlib.Numerals.{add-one}
+use lib.IntN.{pos}
+use lib.ListN.{length, take, getD}
+use lib.Seq.{take-suc}
+use Rattle.integers.specs.Linear.{posPart}
+use Rattle.model.specs.Answers.{Outcome, answer}
+use Rattle.model.specs.Plant.{plant, plantSettings, tenCalls, Line, line, linesFrom, tenLines}
+use Rattle.model.specs.Step.{opened}
+use Rattle.model.proofs.Acceptance.{acceptance}
+use Rattle.records.specs.declared.Answer.{Answer}
+use Rattle.records.specs.declared.Call.{Call}
+use Rattle.records.specs.declared.Call.the-variants.{Sweep}
+use Rattle.ten_calls.specs.Lines.{AnswerInTable, called, outcomeAfter}
+
+pub one-more : (i : ℕ) → i < 9 → outcomeAfter (i + 1) ≡ called (outcomeAfter i) (getD tenCalls i Sweep)
+unfolding outcomeAfter
+one-more i h = rw (add-one, take-suc tenCalls i Sweep) (foldl-append called _ (take i tenCalls) _)
+
+-- line m is that of the outcome after i calls, where the lines begin at n
+lines-have : (m n i : ℕ) (o : Outcome) (ks : List Call) → m ≡ n + i → i ≤ length ks → List·Memᴰ (line m (foldl called o (take i ks))) (linesFrom plant n o ks)
+lines-have m n zero o [] e h = let f : m ≡ n = omega arith in List·Memᴰ·head (ap (λ (x : ℕ). line x o) f)
+lines-have m n zero o (k ∷ ks) e h = let f : m ≡ n = omega arith in List·Memᴰ·head (ap (λ (x : ℕ). line x o) f)
+lines-have m n (suc i) o [] e h = absurd (omega arith)
+lines-have m n (suc i) o (k ∷ ks) e h = List·Memᴰ·tail (lines-have m (n + 1) i (called o k) ks (omega arith) (omega arith))
+
+-- a line as it is printed
+abbrev whole : Line → Line
+whole l = record { call = l .call; answer = l .answer; heating = pos (posPart (l .heating)); cooling = pos (posPart (l .cooling)) }
+
+whole-in : {l : Line} {ls : List Line} → List·Memᴰ l ls → List·Memᴰ (whole l) (map whole ls)
+whole-in (List·Memᴰ·head e) = List·Memᴰ·head (ap whole e)
+whole-in (List·Memᴰ·tail m) = List·Memᴰ·tail (whole-in m)
+
+pub in-table : (n i : ℕ) (a : Answer) → n ≡ 1 + i → i ≤ 9 → a ≡ answer (outcomeAfter i) → AnswerInTable n a
+unfolding outcomeAfter
+in-table n i a e h f =
+    let m = lines-have n 1 i (opened plant (plantSettings 2000 2250)) tenCalls e h in
+    let t = whole-in (subst (λ (ls : List Line). List·Memᴰ (line n (outcomeAfter i)) ls) (acceptance .0) m) in
+    subst (λ (x : Answer). AnswerInTable n x) (sym f) t
