@@ -52,8 +52,8 @@ pub fn record(
     }
 }
 
-pub fn attribute(c: SetpointChangeState, pair: Attributed) -> SetpointChangeState
-    ensures { λ r. ⌜ r ≡ withAttributed c pair ⌝ }
+pub fn attribute(c: SetpointChangeState, claimed: Attributed) -> SetpointChangeState
+    ensures { λ r. ⌜ r ≡ withAttributed c claimed ⌝ }
 {
     let amount = c.amount;
     let armed = c.armed;
@@ -61,7 +61,7 @@ pub fn attribute(c: SetpointChangeState, pair: Attributed) -> SetpointChangeStat
         source: c.source,
         amount: amount,
         timestamp: c.timestamp,
-        attributed: pair,
+        attributed: claimed,
         armed: armed,
     }
 }

@@ -4,6 +4,10 @@ ghost use Rattle.model.specs.Answers.{answer, quiet};
 ghost use Rattle.model.specs.Messages as spec;
 use records::Answer;
 use records::Controller;
+use records::Events;
+use records::Moment;
+use records::Notices;
+use records::Order;
 use records::answer_number;
 use records::pending_mask;
 
@@ -20,5 +24,15 @@ pub fn raise_bits(r: Controller, bits: u16) -> Controller
 pub fn plain_message(r: Controller, bits: u16) -> Answer
     ensures { λ q. ⌜ q ≡ answer (quiet 0 (spec.raiseBits r bits)) ⌝ }
 {
-    orders::quiet_answer(answer_number::DONE, raise_bits(r, bits))
+    let q = raise_bits(r, bits);
+    let n = Notices::none();
+    let e = Events::none();
+    Answer {
+        number: answer_number::DONE,
+        rec: q,
+        order: Order::NoOrder,
+        notices: n,
+        events: e,
+        deadline: Moment::Never,
+    }
 }
