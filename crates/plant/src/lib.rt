@@ -1,4 +1,4 @@
-// Document 01, One plant, ten calls: the plant, its settings, a call's readings, and the calls after the opening.
+// Document 01, One plant, ten calls: the plant, its settings, the readings that a call gets, and the calls.
 ghost use mathlib.Core.Path.{_≡_};
 ghost use lib.ListN.{getD};
 ghost use Rattle.integers.specs.Linear.{posPart};
@@ -66,7 +66,7 @@ pub fn no_readings() -> Readings
     }
 }
 
-// The calls after the opening, from 0; past the last, a sweep.
+// The calls after the opening, counted from 0; past the last, a sweep.
 pub fn call_at(i: u64) -> Call
     ensures { λ r. ⌜ r ≡ getD spec.tenCalls i Call.Sweep ⌝ }
 {
@@ -83,6 +83,7 @@ pub fn call_at(i: u64) -> Call
             Hundredths(1600),
             Hundredths(1600),
         )),
+        // Mode 3 names no side.
         7 => Call::RaiseLowerSetpoint(3, Tenths(10)),
         8 => Call::RaiseLowerSetpoint(raise_lower_mode::COOL, Tenths(-128)),
         _ => Call::Sweep,

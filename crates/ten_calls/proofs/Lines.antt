@@ -1,4 +1,4 @@
--- Each outcome's line is in the table: the lines of the definitions are the table's, by `acceptance`, and no setpoint there is below 0.
+-- Every line is in the table: the lines of the definitions are its lines, by `acceptance`, and no setpoint there is below 0.
 use mathlib.Core.Path.{_≡_, sym, ap, subst}
 use mathlib.Core.List.{List, [], _∷_, List·Memᴰ, List·Memᴰ·head, List·Memᴰ·tail, map, foldl, foldl-append}
 use Prim.Native.Nat.{ℕ, zero, suc, _+_, _≤_, _<_}
@@ -9,7 +9,7 @@ use lib.ListN.{length, take, getD}
 use lib.Seq.{take-suc}
 use Rattle.integers.specs.Linear.{posPart}
 use Rattle.model.specs.Answers.{Outcome, answer}
-use Rattle.model.specs.Plant.{plant, plantSettings, tenCalls, Line, line, linesFrom, tenLines}
+use Rattle.model.specs.Plant.{plant, plantSettings, tenCalls, Line, line, linesFrom}
 use Rattle.model.specs.Step.{opened}
 use Rattle.model.proofs.Acceptance.{acceptance}
 use Rattle.records.specs.declared.Answer.{Answer}

@@ -14,7 +14,7 @@ use Rattle.records.specs.declared.Call.{Call}
 abbrev pub InTable : ℕ → ℕ → ℕ → ℕ → Type 0
 InTable n a h c = List·Memᴰ (record { call = n; answer = a; heating = pos h; cooling = pos c }) tenLines
 
--- the same of an answer
+-- what is printed of an answer is one
 abbrev pub AnswerInTable : ℕ → Answer → Type 0
 AnswerInTable n a = let s = a .rec .attrs .settings in InTable n (a .number) (posPart (s .heating .0)) (posPart (s .cooling .0))
 

@@ -5,7 +5,7 @@ ghost use Rattle.model.specs.Answers.{answer as answerOf};
 ghost use Rattle.ten_calls.specs.Lines.{InTable, AnswerInTable, outcomeAfter};
 use records::Answer;
 
-// Nothing is printed but a line of the table.
+// Prints a line of document 01's table and nothing else: a caller shows that the numbers are one.
 fn print_line(call: u64, answer: u64, heating: u64, cooling: u64)
     requires { ⌜ InTable call answer heating cooling ⌝ }
 {
@@ -31,7 +31,8 @@ fn print_answer(n: u64, a: Answer)
     );
 }
 
-// Call i after the opening, from 0, on the record of the answer before it.
+// Call i after the opening, from 0, on the record of the answer before it. The answers are those of the definitions,
+// whose lines are the table by the theorem `Acceptance` of model.
 fn call(i: u64, before: Answer) -> Answer
     requires { ⌜ (i < 9) × (before ≡ answerOf (outcomeAfter i)) ⌝ }
     ensures { λ r. ⌜ r ≡ answerOf (outcomeAfter (i + 1)) ⌝ }

@@ -1,5 +1,3 @@
-use mathlib.Core.Path.{_∙_, sym, ap}
-use Rattle.model.specs.Answers.{Outcome, answer}
 use Rattle.ten_calls.proofs.Lines.{one-more}
 use Rattle.ten_calls.proofs.call.Statement.{statement}
 use Rattle.ten_calls.proofs.call.Tie as tie
