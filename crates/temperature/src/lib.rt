@@ -72,11 +72,11 @@ pub fn local_temperature_event_due(
     false
 }
 
-pub fn reported_local_temperature(cfg: Config, t: Temperature) -> Temperature
-    ensures { λ r. ⌜ r ≡ reportedTemperature cfg t ⌝ }
+pub fn reported_local_temperature(cfg: Config, reading: Temperature) -> Temperature
+    ensures { λ r. ⌜ r ≡ reportedTemperature cfg reading ⌝ }
 {
     if features::local_temperature_not_exposed(cfg) {
         return Temperature::NoReading;
     }
-    t
+    reading
 }
