@@ -99,7 +99,7 @@ pub fn events(page: &mut Page, at: usize, n: Events) -> usize
     let mut a = at;
     let mut name = text::EVENTS;
     let mut i: usize = 0;
-    while i < 6 {
+    while i < Events::MOST {
         if n.len <= i {
             return a;
         }

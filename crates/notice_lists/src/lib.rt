@@ -15,7 +15,7 @@ pub fn notices(page: &mut Page, at: usize, n: Notices) -> usize
     let mut a = at;
     let mut name = text::NOTICES;
     let mut i: usize = 0;
-    while i < 13 {
+    while i < Notices::MOST {
         if n.len <= i {
             return a;
         }

@@ -9,8 +9,10 @@ use records::Notices;
 use records::attribute_id;
 use records::pending_bit;
 
+const ROWS: usize = 10;
+
 // Pending bit to attribute code, in ascending order of the attributes; the two of the relays share a bit.
-pub const PENDING_ATTRS: [NoticeRow; 10] = [
+pub const PENDING_ATTRS: [NoticeRow; ROWS] = [
     NoticeRow {
         bit: pending_bit::LOCAL_TEMPERATURE,
         code: attribute_id::LOCAL_TEMPERATURE,
@@ -71,7 +73,7 @@ pub fn notify_pending(cfg: Config, pending: u16) -> Notices
 {
     let mut n = Notices::none();
     let mut i: usize = 0;
-    while i < 10 {
+    while i < ROWS {
         let row = PENDING_ATTRS[i];
         n = notify_row(cfg, n, pending, row);
         i += 1;
