@@ -1,3 +1,5 @@
+use Prim.Native.Nat.{_<_, _≤_}
+use native.Mathlib.Omega.{arith}
 use borrow.Author.Needs.{needs}
 use borrow.Author.Tests.{lt-ltb, le-ltb}
 use Rattle.model.specs.Answers.{push}
@@ -12,5 +14,5 @@ push-spec =
     (λ c. search needs)
     (λ c. search needs)
     (λ c. search needs)
-    (λ c. simp (lt-ltb _ _ (c .if1 .taken)))
-    (λ c. simp (le-ltb _ _ (c .if1 .left))))
+    (λ c. let h : c .before .args .n .len < 13 = omega (arith, c .if1 .taken) in simp (lt-ltb _ _ h))
+    (λ c. let h : 13 ≤ c .before .args .n .len = omega (arith, c .if1 .left) in simp (le-ltb _ _ h)))
