@@ -70,7 +70,7 @@ at-most s (suc t) =
       events = omega (arith, events-most (o .events));
     }
 
-pub roomy : (s t : ℕ) → t ≤ 2000000000000000 → TotalsBounded (loadOf s t)
-roomy s t h =
+pub totals-bounded : (s t : ℕ) → t ≤ 2000000000000000 → TotalsBounded (loadOf s t)
+totals-bounded s t h =
     let m = at-most s t in
     record { accepted = omega arith; notices = omega arith; orders = omega arith; events = omega arith }

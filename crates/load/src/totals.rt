@@ -8,6 +8,7 @@ use records::Answer;
 use records::Call;
 use records::Controller;
 use records::Order;
+use records::answer_number;
 
 // The last seed, the record, and the totals.
 pub struct Load {
@@ -42,7 +43,7 @@ fn count(l: Load, sweep: bool, seed: u32, a: Answer) -> Load
     requires { ⌜ TotalsBounded l × (a .notices .len ≤ 13) × (a .events .len ≤ 6) ⌝ }
     ensures { λ r. ⌜ r ≡ counted l sweep seed a ⌝ }
 {
-    let accepted = one_if((a.number == 0) & !sweep);
+    let accepted = one_if((a.number == answer_number::DONE) & !sweep);
     let o = a.order;
     let orders = orders_of(o);
     let r = a.rec;

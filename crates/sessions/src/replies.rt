@@ -8,6 +8,7 @@ use records::Call;
 use records::Config;
 use records::Controller;
 use records::Moment;
+use records::answer_number;
 use text::Page;
 use text::Value;
 
@@ -27,8 +28,8 @@ pub(crate) fn answer_to(c: Config, r: Controller, line: Line) -> Answer
     match line {
         Line::Open(settings, _) => opening::open(c, settings),
         Line::Call(k, d) => controller::step(c, r, d, k),
-        Line::Record(given) => orders::quiet_answer(0, given),
-        _ => orders::quiet_answer(0, r),
+        Line::Record(given) => orders::quiet_answer(answer_number::DONE, given),
+        _ => orders::quiet_answer(answer_number::DONE, r),
     }
 }
 
