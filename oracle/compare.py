@@ -2,6 +2,7 @@
 """The console beside the Rust: both get the same lines, and every answer is compared whole.
 
     python3 oracle/compare.py [CALLS [SEED [CONSOLE [ORACLE]]]]    1,000,000 calls, seed 1; about two minutes
+    python3 oracle/compare.py --repair [CALLS [SEED ..]]           openings and limits messages alone, at repair's edges
     python3 oracle/compare.py --replay CALLS OUTDIR                lines in OUTDIR/stdin, the Rust's answers in OUTDIR/stdout
 
 The paths are target/bin/console and oracle/target/release/oracle if none are given.
@@ -757,6 +758,29 @@ def changed_script(draw, table):
         yield from said(draw, call(draw, config, record.points))
 
 
+def repair_script(draw, table):
+    """Openings and limits messages alone: each number at or beside another one of them, or a dead band from it."""
+    config = good_config(draw, table)
+    yield config.line, BOTH
+
+    def beside(points, count):
+        for _ in range(count):
+            points = [*points, draw.near(points, config.band)]
+        return points[-count:]
+
+    for _ in range(20):
+        settings = beside(config.limits, 6)
+        yield "open " + " ".join(map(str, (*settings, draw.of(*config.modes * 3, *MODES)))), BOTH
+        for _ in range(draw.of(0, 1, 1, 2)):
+            yield "ooblimits " + " ".join(map(str, beside([*config.limits, *settings], 4))), BOTH
+
+
+def repair_scripts(seed, table):
+    draw = Draw(seed)
+    while True:
+        yield list(repair_script(draw, table))
+
+
 def drawn_scripts(seed, table):
     draw = Draw(seed)
     scripts = [chain_script] * 4 + [refused_script] * 4 + [changed_script] + [records_script] * 31
@@ -924,6 +948,8 @@ def compare(arguments):
 
     def scripts():
         nonlocal complete
+        if arguments.repair:
+            yield from repair_scripts(arguments.seed, table)
         drawn = drawn_scripts(arguments.seed, table)
         for script in short_lists(table):
             yield script
@@ -947,7 +973,7 @@ def compare(arguments):
         print(f"  {name:<64}{count:>9}{more}")
 
     print(f"seed {arguments.seed}, table of {len(table)} rows, {counts.lines} lines answered, {time.monotonic() - started:.0f} s")
-    print(f"  short lists {'complete' if complete else 'cut short'}")
+    print("  openings and limits messages alone" if arguments.repair else f"  short lists {'complete' if complete else 'cut short'}")
     row("calls", counts.calls)
     row("of them in document 01's domain", counts.domain())
     print("lines by kind")
@@ -1074,6 +1100,7 @@ def main():
     parser.add_argument("seed", nargs="?", type=int, default=1)
     parser.add_argument("console", nargs="?", default=str(ROOT / "target/bin/console"))
     parser.add_argument("oracle", nargs="?", default=str(ROOT / "oracle/target/release/oracle"))
+    parser.add_argument("--repair", action="store_true")
     parser.add_argument("--replay", nargs=2, metavar=("CALLS", "OUTDIR"))
     arguments = parser.parse_args()
     return replay(arguments) if arguments.replay else compare(arguments)

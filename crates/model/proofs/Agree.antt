@@ -8,14 +8,13 @@ use borrow.Author.Tests.{not-false}
 use Rattle.units.specs.Units.{widened, raised}
 use Rattle.units.specs.declared.Hundredths.{Hundredths}
 use Rattle.units.specs.declared.Tenths.{Tenths}
-use Rattle.records.specs.Records.{setHeating, setCooling, setMode}
 use Rattle.model.specs.Answers.{Outcome, Stage, quiet, unchanged}
 use Rattle.model.specs.Refusals.{Row, unless, Clear}
 use Rattle.model.specs.Served.{heats, cools, auto, hasHeatLimits, hasCoolLimits}
 use Rattle.model.specs.Limits.{minHeatSetpoint, maxHeatSetpoint, minCoolSetpoint, maxCoolSetpoint, inHeatLimits, inCoolLimits, clampHeatSetpoint, clampCoolSetpoint}
-use Rattle.model.specs.Modes.{isSupportedSystemMode}
 use Rattle.model.specs.Attribution.{external, claimSetpoints}
-use Rattle.model.specs.Repair.{clampMinHeat, clampMaxHeat, clampMinCool, clampMaxCool, pullMinHeat, pullMaxHeat, clampHeating, clampCooling, pushCooling, pushHeating, repairMode, repairLimits, repairSetpoints, repaired}
+use Rattle.model.specs.Repair.{repaired}
+use Rattle.model.specs.RepairedSettings.{repairedLimits, repairedSettings}
 use Rattle.model.specs.Writes.{namesAbsentSide, tooNearCooling, tooNearHeating, coolingWithGap, heatingWithGap, storeHeatingSetpoint, storeCoolingSetpoint, pullHeating, pullCooling, raiseHeating, raiseCooling, raiseBoth, raiseSides}
 use Rattle.records.specs.declared.Config.{Config}
 use Rattle.records.specs.declared.Settings.{Settings}
@@ -23,8 +22,9 @@ use Rattle.records.specs.declared.Attrs.{Attrs}
 use Rattle.records.specs.declared.Controller.{Controller}
 use Rattle.records.specs.declared.Readings.{Readings}
 use Rattle.model.specs.Claims.{number, EqualLimits}
-use Rattle.model.proofs.Logic.{by-cond, neither, not-both}
+use Rattle.model.proofs.Logic.{by-cond, cases, neither, not-both}
 use Rattle.model.proofs.Valid.{Valid}
+use Rattle.model.proofs.Repair.{by-formula}
 
 -- equal stored limits
 pub record SameLimits (s t : Settings) : Type 0 where
@@ -146,99 +146,38 @@ module _ (cfg : Config) (d : Readings) where
   raise-limits mode a r =
       by-cond (KeepsLimits r) (eqb mode 0) _ _ (λ e. raise-heat-limits a r) (λ e. by-cond (KeepsLimits r) (eqb mode 1) _ _ (λ f. raise-cool-limits a r) (λ f. raise-both-limits a r))
 
--- repair: limits from limits, setpoints from limits and setpoints. Q is whatever makes the setpoints equal
-module _ (cfg : Config) (v : Valid cfg) (Q : Type 0) where
-  pub record Alike (a b : Attrs) : Type 0 where
-    pub limits : SameLimits (a .settings) (b .settings)
-    pub points : Q → SamePoints cfg (a .settings) (b .settings)
+-- repair: limits from limits, setpoints from limits and setpoints
+module _ (cfg : Config) (s t : Settings) (l : SameLimits s t) where
+  formula-limits : SameLimits (repairedLimits cfg s) (repairedLimits cfg t)
+  unfolding repairedLimits
+  formula-limits =
+      record { minheat = simp (l .minheat, l .mincool); maxheat = simp (l .minheat, l .maxheat, l .mincool, l .maxcool); mincool = simp (l .mincool); maxcool = simp (l .mincool, l .maxcool) }
 
-  same-min-heat : (a b : Attrs) → Alike a b → Alike (clampMinHeat cfg a) (clampMinHeat cfg b)
-  unfolding clampMinHeat
-  same-min-heat a b k =
-      let l = k .limits in
-      both-cond Alike (hasHeatLimits cfg) _ a _ b (λ e. record { limits = record { minheat = simp (l .minheat); maxheat = l .maxheat; mincool = l .mincool; maxcool = l .maxcool }; points = λ q. record { heating = k .points q .heating; cooling = k .points q .cooling } }) (λ e. k)
+  formula-points : Valid cfg → SamePoints cfg s t → SamePoints cfg (repairedSettings cfg s) (repairedSettings cfg t)
+  unfolding repairedSettings
+  formula-points v p =
+      let x = repairedLimits cfg s in
+      let y = repairedLimits cfg t in
+      let k = formula-limits in
+      record {
+        heating = λ h. simp (h, same-clamp-heat cfg x y k (s .heating) (t .heating) (p .heating h));
+        cooling = λ c. let e = same-clamp-cool cfg x y k (s .cooling) (t .cooling) (p .cooling c) in
+            cases (auto cfg) (λ a. simp (c, a, e, same-clamp-heat cfg x y k (s .heating) (t .heating) (p .heating (v .auto-heats a)))) (λ a. simp (c, a, e));
+      }
 
-  same-max-heat : (a b : Attrs) → Alike a b → Alike (clampMaxHeat cfg a) (clampMaxHeat cfg b)
-  unfolding clampMaxHeat
-  same-max-heat a b k =
-      let l = k .limits in
-      both-cond Alike (hasHeatLimits cfg) _ a _ b (λ e. record { limits = record { minheat = l .minheat; maxheat = simp (l .minheat, l .maxheat); mincool = l .mincool; maxcool = l .maxcool }; points = λ q. record { heating = k .points q .heating; cooling = k .points q .cooling } }) (λ e. k)
+module _ (cfg : Config) (v : Valid cfg) (a b : Attrs) (l : SameLimits (a .settings) (b .settings)) where
+  at-formulas : (R : Settings → Settings → Type 0) → R (repairedSettings cfg (a .settings)) (repairedSettings cfg (b .settings)) → R (repaired cfg a .settings) (repaired cfg b .settings)
+  at-formulas R k =
+      subst (λ (x : Settings). R x (repaired cfg b .settings)) (sym (by-formula cfg v a)) (subst (R (repairedSettings cfg (a .settings))) (sym (by-formula cfg v b)) k)
 
-  same-min-cool : (a b : Attrs) → Alike a b → Alike (clampMinCool cfg a) (clampMinCool cfg b)
-  unfolding clampMinCool
-  same-min-cool a b k =
-      let l = k .limits in
-      both-cond Alike (hasCoolLimits cfg) _ a _ b (λ e. record { limits = record { minheat = l .minheat; maxheat = l .maxheat; mincool = simp (l .mincool); maxcool = l .maxcool }; points = λ q. record { heating = k .points q .heating; cooling = k .points q .cooling } }) (λ e. k)
+  pub repaired-limits : SameLimits (repaired cfg a .settings) (repaired cfg b .settings)
+  unfolding repairedSettings
+  repaired-limits =
+      let k = formula-limits cfg (a .settings) (b .settings) l in
+      at-formulas SameLimits (record { minheat = k .minheat; maxheat = k .maxheat; mincool = k .mincool; maxcool = k .maxcool })
 
-  same-max-cool : (a b : Attrs) → Alike a b → Alike (clampMaxCool cfg a) (clampMaxCool cfg b)
-  unfolding clampMaxCool
-  same-max-cool a b k =
-      let l = k .limits in
-      both-cond Alike (hasCoolLimits cfg) _ a _ b (λ e. record { limits = record { minheat = l .minheat; maxheat = l .maxheat; mincool = l .mincool; maxcool = simp (l .mincool, l .maxcool) }; points = λ q. record { heating = k .points q .heating; cooling = k .points q .cooling } }) (λ e. k)
-
-  same-pull-min : (a b : Attrs) → Alike a b → Alike (pullMinHeat cfg a) (pullMinHeat cfg b)
-  unfolding pullMinHeat
-  same-pull-min a b k =
-      let l = k .limits in
-      both-cond Alike (auto cfg && hasHeatLimits cfg) _ a _ b (λ e. record { limits = record { minheat = simp (l .minheat, l .mincool); maxheat = l .maxheat; mincool = l .mincool; maxcool = l .maxcool }; points = λ q. record { heating = k .points q .heating; cooling = k .points q .cooling } }) (λ e. k)
-
-  same-pull-max : (a b : Attrs) → Alike a b → Alike (pullMaxHeat cfg a) (pullMaxHeat cfg b)
-  unfolding pullMaxHeat
-  same-pull-max a b k =
-      let l = k .limits in
-      both-cond Alike (auto cfg && hasHeatLimits cfg) _ a _ b (λ e. record { limits = record { minheat = l .minheat; maxheat = simp (l .minheat, l .maxheat, l .maxcool); mincool = l .mincool; maxcool = l .maxcool }; points = λ q. record { heating = k .points q .heating; cooling = k .points q .cooling } }) (λ e. k)
-
-  -- a step on a setpoint leaves the limits
-  same-heating : (a b : Attrs) (x y : Hundredths) → (Q → x ≡ y) → Alike a b → Alike (setHeating a x) (setHeating b y)
-  same-heating a b x y e k =
-      let l = k .limits in
-      record { limits = record { minheat = l .minheat; maxheat = l .maxheat; mincool = l .mincool; maxcool = l .maxcool }; points = λ q. record { heating = λ h. e q; cooling = k .points q .cooling } }
-
-  same-cooling : (a b : Attrs) (x y : Hundredths) → (Q → x ≡ y) → Alike a b → Alike (setCooling a x) (setCooling b y)
-  same-cooling a b x y e k =
-      let l = k .limits in
-      record { limits = record { minheat = l .minheat; maxheat = l .maxheat; mincool = l .mincool; maxcool = l .maxcool }; points = λ q. record { heating = k .points q .heating; cooling = λ c. e q } }
-
-  same-clamp-heating : (a b : Attrs) → Alike a b → Alike (clampHeating cfg a) (clampHeating cfg b)
-  unfolding clampHeating
-  same-clamp-heating a b k =
-      both-cond Alike (heats cfg) _ a _ b
-      (λ e. same-heating a b _ _ (λ q. same-clamp-heat cfg (a .settings) (b .settings) (k .limits) _ _ (k .points q .heating e)) k) (λ e. k)
-
-  same-clamp-cooling : (a b : Attrs) → Alike a b → Alike (clampCooling cfg a) (clampCooling cfg b)
-  unfolding clampCooling
-  same-clamp-cooling a b k =
-      both-cond Alike (cools cfg) _ a _ b
-      (λ e. same-cooling a b _ _ (λ q. same-clamp-cool cfg (a .settings) (b .settings) (k .limits) _ _ (k .points q .cooling e)) k) (λ e. k)
-
-  same-push-cooling : (a b : Attrs) → Alike a b → Alike (pushCooling cfg a) (pushCooling cfg b)
-  unfolding pushCooling clampCoolSetpoint
-  same-push-cooling a b k =
-      let l = limits-in-force cfg (a .settings) (b .settings) (k .limits) in
-      both-cond Alike (auto cfg) _ a _ b
-      (λ e. same-cooling a b _ _ (λ q. simp (k .points q .cooling (v .auto-cools e), k .points q .heating (v .auto-heats e), l .min-cool, l .max-cool)) k) (λ e. k)
-
-  same-push-heating : (a b : Attrs) → Alike a b → Alike (pushHeating cfg a) (pushHeating cfg b)
-  unfolding pushHeating clampHeatSetpoint
-  same-push-heating a b k =
-      let l = limits-in-force cfg (a .settings) (b .settings) (k .limits) in
-      both-cond Alike (auto cfg) _ a _ b
-      (λ e. same-heating a b _ _ (λ q. simp (k .points q .cooling (v .auto-cools e), k .points q .heating (v .auto-heats e), l .min-heat, l .max-heat)) k) (λ e. k)
-
-  -- the mode touches neither
-  same-mode : (a b : Attrs) → Alike a b → Alike (repairMode cfg a) (repairMode cfg b)
-  unfolding repairMode
-  same-mode a b k =
-      let m = isSupportedSystemMode cfg (a .settings .mode) in
-      let n = isSupportedSystemMode cfg (b .settings .mode) in
-      by-cond (λ (x : Attrs). Alike x (cond n b (setMode b 0))) m a (setMode a 0)
-      (λ e. by-cond (λ (y : Attrs). Alike a y) n b (setMode b 0) (λ f. k) (λ f. record { limits = record { minheat = k .limits .minheat; maxheat = k .limits .maxheat; mincool = k .limits .mincool; maxcool = k .limits .maxcool }; points = λ q. record { heating = k .points q .heating; cooling = k .points q .cooling } }))
-      (λ e. by-cond (λ (y : Attrs). Alike (setMode a 0) y) n b (setMode b 0) (λ f. record { limits = record { minheat = k .limits .minheat; maxheat = k .limits .maxheat; mincool = k .limits .mincool; maxcool = k .limits .maxcool }; points = λ q. record { heating = k .points q .heating; cooling = k .points q .cooling } }) (λ f. record { limits = record { minheat = k .limits .minheat; maxheat = k .limits .maxheat; mincool = k .limits .mincool; maxcool = k .limits .maxcool }; points = λ q. record { heating = k .points q .heating; cooling = k .points q .cooling } }))
-
-  pub same-repaired : (a b : Attrs) → Alike a b → Alike (repaired cfg a) (repaired cfg b)
-  unfolding repaired repairSetpoints repairLimits
-  same-repaired a b k =
-      same-mode _ _ (same-push-heating _ _ (same-push-cooling _ _ (same-clamp-cooling _ _ (same-clamp-heating _ _ (same-pull-max _ _ (same-pull-min _ _ (same-max-cool _ _ (same-min-cool _ _ (same-max-heat _ _ (same-min-heat a b k))))))))))
+  pub repaired-points : SamePoints cfg (a .settings) (b .settings) → SamePoints cfg (repaired cfg a .settings) (repaired cfg b .settings)
+  repaired-points p = at-formulas (SamePoints cfg) (formula-points cfg (a .settings) (b .settings) l v p)
 
 both-test : {X : Type 0} (R : X → X → Type 0) (b c : Bool) (x y u w : X) → b ≡ c → (b ≡ true → R x u) → (b ≡ false → R y w) → R (cond b x y) (cond c u w)
 both-test R b c x y u w e f g = subst (λ (z : Bool). R (cond b x y) (cond z u w)) e (both-cond R b x y u w f g)

@@ -33,7 +33,7 @@ use Rattle.model.proofs.Kept.{step-good, opened-good}
 use Rattle.model.proofs.Agree.{SameLimits, SamePoints, limits-in-force, heating-points, cooling-points}
 use Rattle.model.proofs.Mode.{modeAfter, step-mode}
 use Rattle.model.proofs.Band.{run-good}
-use Rattle.model.proofs.Pairs.{limits-taken, step-both, v}
+use Rattle.model.proofs.Pairs.{taken-limits, step-both, v}
 
 -- whole lists
 run-append : (cfg : Config) (l m : List Entry) (r : Controller) → run cfg r (l ++ m) ≡ run cfg (run cfg r l) m
@@ -87,9 +87,8 @@ module _ (cfg : Config) (ok : accepted cfg ≡ true) where
 
   limits-made : (x y z u : Hundredths) (d : Readings) (q r : Controller) → Good cfg q → Good cfg r → LimitsEqual (after cfg q (limitsEntry x y z u d)) (after cfg r (limitsEntry x y z u d))
   limits-made x y z u d q r gq gr =
-      let k = limits-taken cfg w ⊥ (q .attrs) (r .attrs) (λ f. absurd f) x y z u in
       subst (λ (a : Attrs). SameLimits (a .settings) (after cfg r (limitsEntry x y z u d) .attrs .settings)) (sym (limits-attrs x y z u d q gq))
-      (subst (λ (b : Attrs). SameLimits (repaired cfg (limitsTaken cfg (q .attrs) x y z u) .settings) (b .settings)) (sym (limits-attrs x y z u d r gr)) (k .limits))
+      (subst (λ (b : Attrs). SameLimits (repaired cfg (limitsTaken cfg (q .attrs) x y z u) .settings) (b .settings)) (sym (limits-attrs x y z u d r gr)) (taken-limits cfg w (q .attrs) (r .attrs) x y z u))
 
   mode-supported : (m : ℕ) (d : Readings) (q : Controller) → number cfg q (entry (WriteSystemMode m) d) ≡ 0 → isSupportedSystemMode cfg m ≡ true
   unfolding step writeSystemMode

@@ -8,20 +8,18 @@ use lib.IntN.{ℤ, _+ℤ_, _-ℤ_}
 use lib.Signed.{_≤ℤ_, ≤ℤ-refl}
 use borrow.Author.Tests.{not-false}
 use Rattle.integers.specs.Linear.{linear, sum-parts, diff-parts}
-use Rattle.integers.specs.Clamp.{clampZ, minZ, clamp-above, clamp-below, min-right}
-use Rattle.units.specs.Units.{plus, minus, widened, lesser, clamped}
+use Rattle.integers.specs.Clamp.{clampZ, clamp-above, clamp-below}
+use Rattle.units.specs.Units.{plus, minus, widened, clamped}
 use Rattle.units.specs.declared.Hundredths.{Hundredths}
 use Rattle.units.specs.declared.Tenths.{Tenths}
-use Rattle.records.specs.Records.{changedTo, withAttrs, setMinHeat, setMaxHeat, setMinCool, setMaxCool, setMode, withPending}
+use Rattle.records.specs.Records.{changedTo, withAttrs, setMinHeat, setMaxHeat, setMinCool, setMaxCool, withPending}
 use Rattle.model.specs.Answers.{Outcome, Stage, quiet, andThen, unchanged}
 use Rattle.model.specs.Refusals.{Row, unless, Clear, numbered}
 use Rattle.model.specs.Served.{heats, cools, auto, listed}
 use Rattle.model.specs.Units.{deadBand}
 use Rattle.model.specs.Limits.{minHeatSetpoint, maxHeatSetpoint, minCoolSetpoint, maxCoolSetpoint, inHeatLimits, inCoolLimits, clampHeatSetpoint, clampCoolSetpoint}
-use Rattle.model.specs.Modes.{isSupportedSystemMode}
 use Rattle.model.specs.Attribution.{external, armedClock, claimSetpoints, servedSetpoints}
 use Rattle.model.specs.Validation.{accepted}
-use Rattle.model.specs.Repair.{clampHeating, clampCooling, pushCooling, pushHeating, repairMode, repairLimits, repairSetpoints, repaired}
 use Rattle.model.specs.Orders.{askSweep}
 use Rattle.model.specs.Writes.{applied, tooNearCooling, tooNearHeating, coolingWithGap, heatingWithGap, storeHeatingSetpoint, storeCoolingSetpoint, pullHeating, pullCooling, limitStored, raiseHeating, raiseCooling, raiseBoth, raiseSides, writeOccupiedHeatingSetpoint, writeOccupiedCoolingSetpoint, writeMinHeatSetpointLimit, writeMaxHeatSetpointLimit, writeMinCoolSetpointLimit, writeMaxCoolSetpointLimit, writeSystemMode, setControlSequenceOfOperation, raiseLowerSetpoint, armClock}
 use Rattle.model.specs.Messages.{messageTaken, heatingMessage, coolingMessage, modeMessage, limitsMessage, limitsTaken, outOfBandMessage}
@@ -43,9 +41,9 @@ use Rattle.records.specs.declared.Call.the-variants.{WriteOccupiedHeatingSetpoi
 use Rattle.model.specs.Claims.{Entry, after, number, run, shortGapAfter, shortGapAllowed, GapKept, Band}
 use Rattle.model.proofs.Logic.{clash, not-both, by-cond, by-refusal}
 use Rattle.model.proofs.Valid.{Valid, valid}
-use Rattle.model.proofs.Chain.{InForce, LimitTests, Placed, inside, apart, in-force, heat-clamped, cool-clamped}
-use Rattle.model.proofs.Repair.{limits-repaired, setpoints-clamped, cooling-pushed}
-use Rattle.model.proofs.Good.{Good, raised-heat, raised-cool, heat-raised, armed-good, heating-inside, cooling-inside}
+use Rattle.model.proofs.Chain.{InForce, LimitTests, inside, apart, in-force, heating-between, cooling-between, heat-clamped, cool-clamped}
+use Rattle.model.proofs.Repair.{repair-settled}
+use Rattle.model.proofs.Good.{Good, raised-heat, raised-cool, heat-raised, armed-good}
 use Rattle.model.proofs.Kept.{step-good, opened-good, min-heat-tests, max-heat-tests, min-cool-tests, max-cool-tests, far}
 
 module _ (cfg : Config) (s : Settings) (k : InForce cfg s) where
@@ -71,38 +69,6 @@ module _ (cfg : Config) (s : Settings) (k : InForce cfg s) where
       let b = clamp-below (c .0 -ℤ d .0) (c .0 -ℤ d .0) (minHeatSetpoint cfg s .0) (maxHeatSetpoint cfg s .0) (≤ℤ-refl (c .0 -ℤ d .0)) (omega (linear, diff-parts (c .0) (d .0), sum-parts (minHeatSetpoint cfg s .0) (d .0))) in
       omega (linear, sum-parts y (d .0), diff-parts (c .0) (d .0)))
       (λ t. far c (s .heating) d (not-both (auto cfg) _ t a))
-
-heating-between : (cfg : Config) (s : Settings) → Placed cfg s → heats cfg ≡ true → (minHeatSetpoint cfg s .0 ≤ℤ s .heating .0) × (s .heating .0 ≤ℤ maxHeatSetpoint cfg s .0)
-unfolding inHeatLimits
-heating-between cfg s p h = inside (s .heating) (minHeatSetpoint cfg s) (maxHeatSetpoint cfg s) (heating-inside cfg s (p .heating) h)
-
-cooling-between : (cfg : Config) (s : Settings) → Placed cfg s → cools cfg ≡ true → (minCoolSetpoint cfg s .0 ≤ℤ s .cooling .0) × (s .cooling .0 ≤ℤ maxCoolSetpoint cfg s .0)
-unfolding inCoolLimits
-cooling-between cfg s p c = inside (s .cooling) (minCoolSetpoint cfg s) (maxCoolSetpoint cfg s) (cooling-inside cfg s (p .cooling) c)
-
-module _ (cfg : Config) (v : Valid cfg) where
-  -- repair closes the gap: its last step lets heating give way to whatever cooling is
-  heat-gap : (b : Attrs) → Placed cfg (b .settings) → GapKept cfg (pushHeating cfg b .settings)
-  unfolding pushHeating clampHeatSetpoint clamped lesser minus widened
-  heat-gap b p a =
-      let s = b .settings in
-      let d = deadBand cfg .0 in
-      let k = in-force cfg s v (p .limits) in
-      let i = cooling-between cfg s p (v .auto-cools a) in
-      let l = k .low a in
-      let w = minZ (s .heating .0) (s .cooling .0 -ℤ d) in
-      let y = clampZ w (minHeatSetpoint cfg s .0) (maxHeatSetpoint cfg s .0) in
-      let z = clamp-below (s .cooling .0 -ℤ d) w (minHeatSetpoint cfg s .0) (maxHeatSetpoint cfg s .0) (min-right (s .heating .0) (s .cooling .0 -ℤ d)) (omega (linear, diff-parts (s .cooling .0) d, sum-parts (minHeatSetpoint cfg s .0) d)) in
-      rw a (omega (linear, sum-parts y d, diff-parts (s .cooling .0) d))
-
-  pub repair-gap : (a : Attrs) → GapKept cfg (repaired cfg a .settings)
-  unfolding repaired repairMode repairSetpoints
-  repair-gap a =
-      let l = repairLimits cfg a in
-      let b = clampCooling cfg (clampHeating cfg l) in
-      let g = heat-gap (pushCooling cfg b) (cooling-pushed cfg v b (setpoints-clamped cfg v l (limits-repaired cfg v a))) in
-      let c = pushHeating cfg (pushCooling cfg b) in
-      by-cond (λ (x : Attrs). GapKept cfg (x .settings)) (isSupportedSystemMode cfg (c .settings .mode)) c (setMode c 0) (λ e. g) (λ e. g)
 
 -- over calls: what each leaves
 module _ (cfg : Config) (v : Valid cfg) (d : Readings) where
@@ -210,7 +176,7 @@ module _ (cfg : Config) (v : Valid cfg) (d : Readings) (r : Controller) (g : Goo
   message-gap (OccupiedHeatingSetpoint w) l = clash true refl l
   message-gap (OccupiedCoolingSetpoint w) l = clash true refl l
   message-gap (SystemMode m) l = guarded (OutOfBand (SystemMode m)) r _ _ refl refl (λ c l. old l) l
-  message-gap (SetpointLimits x y z u) l = repair-gap cfg v (limitsTaken cfg (r .attrs) x y z u)
+  message-gap (SetpointLimits x y z u) l = repair-settled cfg v (limitsTaken cfg (r .attrs) x y z u) .gap
 
   -- a stored limit, and what it pulls
   heat-limit-gap : (a : Attrs) → LimitTests cfg (a .settings) → GapKept cfg (a .settings) → (code : ℕ) → GapKept cfg (applied cfg d (andThen (limitStored cfg r a code) (pullHeating cfg d)) .rec .attrs .settings)
@@ -256,7 +222,7 @@ module _ (cfg : Config) (v : Valid cfg) where
 
 opened-gap : (cfg : Config) (s : Settings) → accepted cfg ≡ true → GapKept cfg (opened cfg s .rec .attrs .settings)
 unfolding opened askSweep
-opened-gap cfg s a = rw a (repair-gap cfg (valid cfg a) (record { settings = s; dirty = false }))
+opened-gap cfg s a = rw a (repair-settled cfg (valid cfg a) (record { settings = s; dirty = false }) .gap)
 
 pub band : Band
 band cfg s l a =

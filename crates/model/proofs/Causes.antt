@@ -1,6 +1,6 @@
 -- Each refusal in its own case only: a call's number is that of the table of causes, and an opening's that of rows 1 to 21.
-use mathlib.Core.Path.{_≡_, refl, sym, _∙_, ap}
-use mathlib.Core.Logic.{_⊎_, inl, inr}
+use mathlib.Core.Path.{_≡_, refl, sym}
+use mathlib.Core.Logic.{inl, inr}
 use mathlib.Core.Bool.{Bool, true, false, cond}
 use mathlib.Core.List.{List, [], _∷_}
 use Prim.Native.Nat.{ℕ}
@@ -10,7 +10,7 @@ use Rattle.model.specs.Refusals.{Row, firstFailing, thenRows, unless, Fi
 use Rattle.model.specs.Validation.{validationRows, featureRows, attributeRows, limitRows, eventRows, numberRows, validated, accepted}
 use Rattle.model.specs.Writes.{applied, writeOccupiedHeatingSetpoint, writeOccupiedCoolingSetpoint, writeMinHeatSetpointLimit, writeMaxHeatSetpointLimit, writeMinCoolSetpointLimit, writeMaxCoolSetpointLimit, writeSystemMode, setControlSequenceOfOperation, raiseLowerSetpoint, armClock}
 use Rattle.model.specs.Messages.{messageTaken, heatingMessage, coolingMessage, modeMessage, limitsMessage, outOfBandMessage}
-use Rattle.model.specs.Sweep.{swept, sweep, timer, seedEvents, deadline}
+use Rattle.model.specs.Sweep.{sweep, timer, seedEvents, deadline}
 use Rattle.model.specs.Causes.{ofMessage, rowsIn, causes}
 use Rattle.model.specs.Step.{opened, step}
 use Rattle.model.specs.Laws.{ByRows, OwnCase, OpeningOwnCase}

@@ -10,7 +10,7 @@ use Rattle.integers.specs.Clamp.{clamp-low, clamp-high}
 use Rattle.units.specs.Units.{less, minus, above, within, clamped}
 use Rattle.units.specs.declared.Hundredths.{Hundredths}
 use Rattle.units.specs.declared.Wide.{Wide}
-use Rattle.model.specs.Served.{auto, hasHeatLimits, hasCoolLimits}
+use Rattle.model.specs.Served.{heats, cools, auto, hasHeatLimits, hasCoolLimits}
 use Rattle.model.specs.Units.{deadBand}
 use Rattle.model.specs.Limits.{minHeatSetpoint, maxHeatSetpoint, minCoolSetpoint, maxCoolSetpoint, inHeatLimits, inCoolLimits, clampHeatSetpoint, clampCoolSetpoint}
 use Rattle.model.specs.Sound.{soundHeatLimits, soundCoolLimits, soundGap, soundHeating, soundCooling}
@@ -138,6 +138,15 @@ pub record Placed (cfg : Config) (s : Settings) : Type 0 where
   pub limits : LimitTests cfg s
   pub heating : soundHeating cfg s ≡ true
   pub cooling : soundCooling cfg s ≡ true
+
+-- a served setpoint lies within its limits in force
+pub heating-between : (cfg : Config) (s : Settings) → Placed cfg s → heats cfg ≡ true → (minHeatSetpoint cfg s .0 ≤ℤ s .heating .0) × (s .heating .0 ≤ℤ maxHeatSetpoint cfg s .0)
+unfolding soundHeating inHeatLimits
+heating-between cfg s p h = inside (s .heating) (minHeatSetpoint cfg s) (maxHeatSetpoint cfg s) (implied (heats cfg) _ (p .heating) h)
+
+pub cooling-between : (cfg : Config) (s : Settings) → Placed cfg s → cools cfg ≡ true → (minCoolSetpoint cfg s .0 ≤ℤ s .cooling .0) × (s .cooling .0 ≤ℤ maxCoolSetpoint cfg s .0)
+unfolding soundCooling inCoolLimits
+cooling-between cfg s p c = inside (s .cooling) (minCoolSetpoint cfg s) (maxCoolSetpoint cfg s) (implied (cools cfg) _ (p .cooling) c)
 
 pub in-force : (cfg : Config) (s : Settings) → Valid cfg → LimitTests cfg s → InForce cfg s
 unfolding minHeatSetpoint maxHeatSetpoint minCoolSetpoint maxCoolSetpoint

@@ -34,7 +34,7 @@ use Rattle.records.specs.declared.OutOfBandMessage.the-variants.{LocalTemperatu
 use Rattle.model.proofs.Logic.{both, implied, implies, by-cond, by-unless}
 use Rattle.model.proofs.Valid.{Valid}
 use Rattle.model.proofs.Chain.{LimitTests, Placed, InForce, in-force, clamp-inside, heat-clamped, cool-clamped}
-use Rattle.model.proofs.Repair.{repair-placed}
+use Rattle.model.proofs.Repair.{repair-settled, repair-mode}
 
 -- what row 28 asks beyond the configuration
 pub record Good (cfg : Config) (r : Controller) : Type 0 where
@@ -251,4 +251,4 @@ module _ (cfg : Config) (v : Valid cfg) (d : Readings) where
       by-unless (λ (o : Outcome). Good cfg (o .rec)) _ r _ (λ n. g)
       (λ c. let k = mode-stored m r (not-false (isSupportedSystemMode cfg m) (c .0)) g in record { placed = k .placed; mode = k .mode; last = k .last })
   message-good r (SetpointLimits a b c e) g =
-      let k = repair-placed cfg v (limitsTaken cfg (r .attrs) a b c e) in record { placed = k .0; mode = k .1; last = g .last }
+      let t = limitsTaken cfg (r .attrs) a b c e in record { placed = repair-settled cfg v t .placed; mode = repair-mode cfg v t; last = g .last }

@@ -2,7 +2,7 @@
 use mathlib.Core.Path.{_≡_, refl, sym, _∙_}
 use mathlib.Core.Bool.{Bool, true, false, not, _&&_, _||_}
 use mathlib.Core.List.{List}
-use Prim.Native.Nat.{ℕ, _≤_}
+use Prim.Native.Nat.{ℕ}
 use lib.IntN.{ℤ, _+ℤ_}
 use lib.Signed.{_≤ℤ_}
 use borrow.Author.Tests.{not-false}
@@ -35,7 +35,7 @@ use Rattle.records.specs.declared.Call.the-variants.{WriteOccupiedHeatingSetpoi
 use Rattle.model.proofs.Logic.{neither, or-left, or-right, not-both, by-unless}
 use Rattle.model.proofs.Valid.{Valid, valid}
 use Rattle.model.proofs.Chain.{LimitTests, inside, apart, heat-ordered, is-heat-ordered, cool-ordered, is-cool-ordered, gaps, is-gaps}
-use Rattle.model.proofs.Repair.{repair-placed}
+use Rattle.model.proofs.Repair.{repair-settled, repair-mode}
 use Rattle.model.proofs.Good.{Good, applied-good, armed-good, cooling-pulled, cooling-stored, events-good, good, heating-pulled, heating-stored, is-good, message-good, mode-stored, rest, sides-raised, sound-accepted, started-good, swept-good}
 
 -- a limit attribute is served only with all four of its side
@@ -179,7 +179,9 @@ step-sound cfg r d k e =
 pub opened-good : (cfg : Config) (s : Settings) → accepted cfg ≡ true → Good cfg (opened cfg s .rec)
 unfolding opened askSweep
 opened-good cfg s a =
-    let k = repair-placed cfg (valid cfg a) (record { settings = s; dirty = false }) in rw a (record { placed = k .0; mode = k .1; last = refl })
+    let v = valid cfg a in
+    let t : Attrs = record { settings = s; dirty = false } in
+    rw a (record { placed = repair-settled cfg v t .placed; mode = repair-mode cfg v t; last = refl })
 
 pub opened-sound : OpenedSound
 opened-sound cfg s a = is-good cfg (opened cfg s .rec) a (opened-good cfg s a)

@@ -1,18 +1,19 @@
 -- The mode is a function of the mode before, the configuration and the call.
 use mathlib.Core.Path.{_≡_, refl, sym, _∙_, ap, subst}
-use mathlib.Core.Bool.{Bool, true, false, not, _&&_, cond}
+use mathlib.Core.Bool.{Bool, true, false, not, cond}
 use mathlib.Core.List.{List, [], _∷_}
 use Prim.Native.Nat.{ℕ}
 use lib.Dec.{eqb}
 use Rattle.units.specs.declared.Tenths.{Tenths}
-use Rattle.records.specs.Records.{withAttrs, setMinHeat, setMaxHeat, setMinCool, setMaxCool, setMode}
+use Rattle.records.specs.Records.{withAttrs, setMinHeat, setMaxHeat, setMinCool, setMaxCool}
 use Rattle.model.specs.Answers.{Outcome, Stage, quiet, unchanged}
 use Rattle.model.specs.Refusals.{Row, row, unless}
-use Rattle.model.specs.Served.{heats, cools, auto, hasHeatLimits, hasCoolLimits}
+use Rattle.model.specs.Served.{heats, cools}
 use Rattle.model.specs.Limits.{inHeatLimits, inCoolLimits}
 use Rattle.model.specs.Modes.{isSupportedSystemMode}
 use Rattle.model.specs.Attribution.{armedClock, claimSetpoints}
-use Rattle.model.specs.Repair.{clampMinHeat, clampMaxHeat, clampMinCool, clampMaxCool, pullMinHeat, pullMaxHeat, clampHeating, clampCooling, pushCooling, pushHeating, repairMode, repairLimits, repairSetpoints, repaired}
+use Rattle.model.specs.Repair.{repaired}
+use Rattle.model.specs.RepairedSettings.{repairedSettings}
 use Rattle.model.specs.Sound.{sound, unsound}
 use Rattle.model.specs.Orders.{askSweep}
 use Rattle.model.specs.Writes.{applied, storeHeatingSetpoint, storeCoolingSetpoint, pullHeating, pullCooling, raiseHeating, raiseCooling, raiseBoth, raiseSides, writeOccupiedHeatingSetpoint, writeOccupiedCoolingSetpoint, writeMinHeatSetpointLimit, writeMaxHeatSetpointLimit, writeMinCoolSetpointLimit, writeMaxCoolSetpointLimit, writeSystemMode, setControlSequenceOfOperation, raiseLowerSetpoint, armClock}
@@ -20,6 +21,7 @@ use Rattle.model.specs.Messages.{messageTaken, heatingMessage, coolingMe
 use Rattle.model.specs.Sweep.{sweep, timer, started, seedEvents, deadline}
 use Rattle.model.specs.Step.{step}
 use Rattle.records.specs.declared.Config.{Config}
+use Rattle.records.specs.declared.Settings.{Settings}
 use Rattle.records.specs.declared.Attrs.{Attrs}
 use Rattle.records.specs.declared.Controller.{Controller}
 use Rattle.records.specs.declared.Readings.{Readings}
@@ -27,8 +29,9 @@ use Rattle.records.specs.declared.OutOfBandMessage.{OutOfBandMessage}
 use Rattle.records.specs.declared.OutOfBandMessage.the-variants.{LocalTemperature, RunningState, Update, OccupiedHeatingSetpoint, OccupiedCoolingSetpoint, SystemMode, SetpointLimits}
 use Rattle.records.specs.declared.Call.{Call}
 use Rattle.records.specs.declared.Call.the-variants.{WriteOccupiedHeatingSetpoint, WriteOccupiedCoolingSetpoint, WriteMinHeatSetpointLimit, WriteMaxHeatSetpointLimit, WriteMinCoolSetpointLimit, WriteMaxCoolSetpointLimit, WriteSystemMode, SetControlSequenceOfOperation, RaiseLowerSetpoint, ArmClock, OutOfBand, SeedEvents, Sweep, Timer, Deadline}
-use Rattle.model.proofs.Logic.{by-cond, by-unless, clash}
+use Rattle.model.proofs.Logic.{by-cond, by-unless}
 use Rattle.model.proofs.Valid.{Valid}
+use Rattle.model.proofs.Repair.{by-formula}
 use Rattle.model.proofs.Good.{Good}
 use Rattle.model.proofs.Band.{events-attrs, swept-attrs}
 
@@ -56,39 +59,10 @@ modeAfter cfg m Sweep = m
 modeAfter cfg m Timer = m
 modeAfter cfg m Deadline = m
 
-module _ (cfg : Config) where
-  abbrev ModeOf : Attrs → Attrs → Type 0
-  ModeOf a b = b .settings .mode ≡ a .settings .mode
-
-  -- a step of the repair that leaves the mode, made or not
-  unmoved : (t : Bool) (b a : Attrs) → ModeOf a b → ModeOf a (cond t b a)
-  unmoved t b a e = by-cond (ModeOf a) t b a (λ f. e) (λ f. refl)
-
-  -- a supported mode stays through a repair
-  mode-repaired : (a : Attrs) → isSupportedSystemMode cfg (a .settings .mode) ≡ true → repaired cfg a .settings .mode ≡ a .settings .mode
-  unfolding repaired repairSetpoints repairLimits repairMode clampMinHeat clampMaxHeat clampMinCool clampMaxCool pullMinHeat pullMaxHeat clampHeating clampCooling pushCooling pushHeating
-  mode-repaired a m =
-      let a₁ = clampMinHeat cfg a in
-      let a₂ = clampMaxHeat cfg a₁ in
-      let a₃ = clampMinCool cfg a₂ in
-      let a₄ = clampMaxCool cfg a₃ in
-      let a₅ = pullMinHeat cfg a₄ in
-      let a₆ = pullMaxHeat cfg a₅ in
-      let a₇ = clampHeating cfg a₆ in
-      let a₈ = clampCooling cfg a₇ in
-      let a₉ = pushCooling cfg a₈ in
-      let b = pushHeating cfg a₉ in
-      let e₁ : ModeOf a a₁ = unmoved (hasHeatLimits cfg) _ a refl in
-      let e₂ : ModeOf a a₂ = unmoved (hasHeatLimits cfg) _ a₁ refl ∙ e₁ in
-      let e₃ : ModeOf a a₃ = unmoved (hasCoolLimits cfg) _ a₂ refl ∙ e₂ in
-      let e₄ : ModeOf a a₄ = unmoved (hasCoolLimits cfg) _ a₃ refl ∙ e₃ in
-      let e₅ : ModeOf a a₅ = unmoved (auto cfg && hasHeatLimits cfg) _ a₄ refl ∙ e₄ in
-      let e₆ : ModeOf a a₆ = unmoved (auto cfg && hasHeatLimits cfg) _ a₅ refl ∙ e₅ in
-      let e₇ : ModeOf a a₇ = unmoved (heats cfg) _ a₆ refl ∙ e₆ in
-      let e₈ : ModeOf a a₈ = unmoved (cools cfg) _ a₇ refl ∙ e₇ in
-      let e₉ : ModeOf a a₉ = unmoved (auto cfg) _ a₈ refl ∙ e₈ in
-      let e : ModeOf a b = unmoved (auto cfg) _ a₉ refl ∙ e₉ in
-      by-cond (ModeOf a) (isSupportedSystemMode cfg (b .settings .mode)) b (setMode b 0) (λ f. e) (λ f. clash (isSupportedSystemMode cfg (b .settings .mode)) (ap (isSupportedSystemMode cfg) e ∙ m) f)
+-- a supported mode stays through a repair
+mode-repaired : (cfg : Config) (v : Valid cfg) (a : Attrs) → isSupportedSystemMode cfg (a .settings .mode) ≡ true → repaired cfg a .settings .mode ≡ a .settings .mode
+unfolding repairedSettings
+mode-repaired cfg v a m = ap (λ (s : Settings). s .mode) (by-formula cfg v a) ∙ simp m
 
 -- stores of setpoints and limits leave the mode
 module _ (cfg : Config) (d : Readings) where
@@ -166,7 +140,7 @@ module _ (cfg : Config) (v : Valid cfg) (d : Readings) (r : Controller) (g : Goo
   message-mode (OccupiedHeatingSetpoint x) = refl
   message-mode (OccupiedCoolingSetpoint x) = refl
   message-mode (SystemMode m) = chosen-message m _ refl
-  message-mode (SetpointLimits x y z w) = mode-repaired cfg (limitsTaken cfg (r .attrs) x y z w) (g .mode)
+  message-mode (SetpointLimits x y z w) = mode-repaired cfg v (limitsTaken cfg (r .attrs) x y z w) (g .mode)
 
   pub step-mode : (k : Call) → Moded (modeAfter cfg mode k) (step cfg r d k)
   unfolding step writeOccupiedHeatingSetpoint writeOccupiedCoolingSetpoint writeMinHeatSetpointLimit writeMaxHeatSetpointLimit writeMinCoolSetpointLimit writeMaxCoolSetpointLimit writeSystemMode setControlSequenceOfOperation raiseLowerSetpoint armClock outOfBandMessage seedEvents sweep timer deadline applied askSweep storeHeatingSetpoint storeCoolingSetpoint started claimSetpoints armedClock

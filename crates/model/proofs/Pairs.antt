@@ -33,15 +33,22 @@ use Rattle.model.proofs.Logic.{or-left, or-right}
 use Rattle.model.proofs.Valid.{Valid, valid}
 use Rattle.model.proofs.Good.{Good, is-good}
 use Rattle.model.proofs.Kept.{heat-served, cool-served}
-use Rattle.model.proofs.Agree.{SameLimits, SamePoints, both-unless, chained, limits-in-force, same-in-heat, same-in-cool, same-clamp-heat, same-clamp-cool, heating-limits, cooling-limits, pull-heat-limits, pull-cool-limits, raise-limits, Alike, same-repaired, heating-points, cooling-points, pull-heat-points, pull-cool-points, raise-points}
+use Rattle.model.proofs.Agree.{SameLimits, SamePoints, both-unless, chained, limits-in-force, same-in-heat, same-in-cool, same-clamp-heat, same-clamp-cool, heating-limits, cooling-limits, pull-heat-limits, pull-cool-limits, raise-limits, repaired-limits, repaired-points, heating-points, cooling-points, pull-heat-points, pull-cool-points, raise-points}
 use Rattle.model.proofs.Refused.{swept-done}
 use Rattle.model.proofs.Band.{settings-armed, events-attrs, swept-attrs}
 
 -- after a limits message limits are equal, whatever they were before; and setpoints where they were
-pub limits-taken : (cfg : Config) (v : Valid cfg) (Q : Type 0) (a b : Attrs) → (Q → SamePoints cfg (a .settings) (b .settings)) → (x y z w : Hundredths) → Alike cfg v Q (repaired cfg (limitsTaken cfg a x y z w)) (repaired cfg (limitsTaken cfg b x y z w))
-unfolding limitsTaken
-limits-taken cfg v Q a b f x y z w =
-    same-repaired cfg v Q _ _ (record { limits = record { minheat = refl; maxheat = refl; mincool = refl; maxcool = refl }; points = λ p. record { heating = f p .heating; cooling = f p .cooling } })
+module _ (cfg : Config) (v : Valid cfg) (a b : Attrs) (x y z w : Hundredths) where
+  taken-alike : SameLimits (limitsTaken cfg a x y z w .settings) (limitsTaken cfg b x y z w .settings)
+  unfolding limitsTaken
+  taken-alike = record { minheat = refl; maxheat = refl; mincool = refl; maxcool = refl }
+
+  pub taken-limits : SameLimits (repaired cfg (limitsTaken cfg a x y z w) .settings) (repaired cfg (limitsTaken cfg b x y z w) .settings)
+  taken-limits = repaired-limits cfg v _ _ taken-alike
+
+  pub taken-points : SamePoints cfg (a .settings) (b .settings) → SamePoints cfg (repaired cfg (limitsTaken cfg a x y z w) .settings) (repaired cfg (limitsTaken cfg b x y z w) .settings)
+  unfolding limitsTaken
+  taken-points p = repaired-points cfg v _ _ taken-alike (record { heating = p .heating; cooling = p .cooling })
 
 -- one call on two controllers with equal limits: equal numbers, equal limits again, and equal setpoints where they were equal
 pub record Stepped (cfg : Config) (q r : Controller) (o p : Outcome) : Type 0 where
@@ -150,8 +157,7 @@ module _ (cfg : Config) (ok : accepted cfg ≡ true) (d : Readings) (q r : Contr
         points = λ p. record { heating = p .heating; cooling = p .cooling };
       })
   message-both (SetpointLimits x y z w) =
-      let k = limits-taken cfg v (SamePoints cfg (q .attrs .settings) (r .attrs .settings)) (q .attrs) (r .attrs) (λ p. p) x y z w in
-      record { number = refl; limits = k .limits; points = k .points }
+      record { number = refl; limits = taken-limits cfg v (q .attrs) (r .attrs) x y z w; points = taken-points cfg v (q .attrs) (r .attrs) x y z w }
 
   pub sound-row : _≡_ {A = List Row} (unsound cfg q ∷ []) (unsound cfg r ∷ [])
   sound-row = simp (sq, sr)

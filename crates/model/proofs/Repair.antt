@@ -1,27 +1,30 @@
--- Repair of any settings on an accepted configuration leaves what row 28 asks of settings, and the limits that the paper's own steps give.
-use mathlib.Core.Path.{_≡_, refl, sym, _∙_, ap, ap₂}
-use mathlib.Core.Bool.{true, false, _&&_}
+-- Repair on an accepted configuration, C-24: the settings that its steps give are the formulas'; these pass row 28 and keep the gap; on such settings no
+-- step of repair changes anything, document 01's final heating adjustment included.
+use mathlib.Core.Path.{_≡_, refl, sym, _∙_, ap, ap₂, subst}
+use mathlib.Core.Bool.{Bool, true, false, not, _&&_, _||_, cond}
 use Prim.Native.Nat.{ℕ}
 use lib.IntN.{ℤ, _+ℤ_, _-ℤ_}
 use lib.Signed.{_≤ℤ_}
-use Rattle.integers.specs.Linear.{linear, sum-parts, diff-parts}
-use Rattle.integers.specs.Clamp.{clampZ, maxZ, minZ, max-parts, min-parts, clamp-low, clamp-high, clamp-below, clamp-above}
-use Rattle.units.specs.Units.{minus, widened, clamped}
+use borrow.Author.Tests.{eq-eqb}
+use Rattle.integers.specs.Linear.{linear, eqZ, sum-parts, diff-parts}
+use Rattle.integers.specs.Clamp.{clampZ, maxZ, minZ, max-parts, min-parts, clamp-low, clamp-high, clamp-within, clamp-lesser, clamp-upper}
+use Rattle.units.specs.Units.{hundredths, equal, plus, minus, widened, greater, lesser, clamped}
 use Rattle.units.specs.declared.Hundredths.{Hundredths}
-use Rattle.units.specs.declared.Wide.{Wide}
-use Rattle.records.specs.Records.{setHeating, setCooling, setMode}
+use Rattle.records.specs.Records.{sameSettings, updated, setHeating, setCooling, setMinHeat, setMaxHeat, setMinCool, setMaxCool}
 use Rattle.model.specs.Served.{heats, cools, auto, hasHeatLimits, hasCoolLimits}
 use Rattle.model.specs.Units.{deadBand}
 use Rattle.model.specs.Limits.{minHeatSetpoint, maxHeatSetpoint, minCoolSetpoint, maxCoolSetpoint, inHeatLimits, inCoolLimits, clampHeatSetpoint, clampCoolSetpoint}
 use Rattle.model.specs.Modes.{isSupportedSystemMode}
-use Rattle.model.specs.Repair.{LimitNumbers, limitNumbers, writtenHeat, writtenCool, writtenPull, writtenLimits, clampMinHeat, clampMaxHeat, clampMinCool, clampMaxCool, pullMinHeat, pullMaxHeat, clampHeating, clampCooling, pushCooling, pushHeating, repairMode, repairLimits, repairSetpoints, repaired}
-use Rattle.model.specs.Laws.{LimitsAsWritten}
+use Rattle.model.specs.Repair.{clampMinHeat, clampMaxHeat, clampMinCool, clampMaxCool, pullMinHeat, pullMaxHeat, clampHeating, clampCooling, pushCooling, pushHeating, repairMode, repairLimits, repairSetpoints, repaired}
+use Rattle.model.specs.RepairedSettings.{greaterWithAuto, repairedLimits, repairedSettings, AdjustmentChangesNothing, SettingsByFormula, SecondRepairChangesNothing}
 use Rattle.model.specs.Sound.{soundHeatLimits, soundCoolLimits, soundGap, soundHeating, soundCooling}
+use Rattle.model.specs.Claims.{GapKept}
 use Rattle.records.specs.declared.Config.{Config}
+use Rattle.records.specs.declared.Settings.{Settings}
 use Rattle.records.specs.declared.Attrs.{Attrs}
-use Rattle.model.proofs.Logic.{both, and-true, implies, by-cond, cases, clash}
+use Rattle.model.proofs.Logic.{both, implies, by-cond, cases}
 use Rattle.model.proofs.Valid.{Valid, valid}
-use Rattle.model.proofs.Chain.{Ordered, LimitTests, Placed, is-heat-ordered, is-cool-ordered, is-gaps, in-force, heat-clamped, cool-clamped}
+use Rattle.model.proofs.Chain.{Ordered, InForce, LimitTests, Placed, heating-between, cooling-between, heat-ordered, is-heat-ordered, cool-ordered, is-cool-ordered, gaps, is-gaps, in-force, heat-clamped, cool-clamped}
 
 -- a minimum clamped to ABS, and a maximum to minimum..ABS_MAX
 paired : (mi ma lo hi : ℤ) → lo ≤ℤ hi → Ordered lo (clampZ mi lo hi) (clampZ ma (clampZ mi lo hi) hi) hi
@@ -29,296 +32,358 @@ paired mi ma lo hi h =
     let u = clamp-high mi lo hi h in
     record { low = clamp-low mi lo hi h; mid = clamp-low ma (clampZ mi lo hi) hi u; high = clamp-high ma (clampZ mi lo hi) hi u }
 
--- the heating limits pulled below cooling's, each a step
+-- heating's ordered limits mi, ma pulled below cooling's mc, xc
 module _ (d lo hi mi ma mc xc : ℤ) (o : Ordered lo mi ma hi) (c : mc ≤ℤ xc) (g : (lo +ℤ d) ≤ℤ mc) where
-  -- the first is the lesser of itself and cooling minimum − dead band
-  pulled-min : clampZ (mc -ℤ d) lo mi ≡ minZ mi (mc -ℤ d)
-  pulled-min =
-      let a = clamp-high (mc -ℤ d) lo mi (o .low) in
-      let b = clamp-below (mc -ℤ d) (mc -ℤ d) lo mi (omega linear) (omega (linear, sum-parts lo d, diff-parts mc d)) in
-      let e = clamp-above (minZ mi (mc -ℤ d)) (mc -ℤ d) lo mi (omega (linear, min-parts mi (mc -ℤ d))) (omega (linear, min-parts mi (mc -ℤ d))) in
-      omega (linear, min-parts mi (mc -ℤ d))
+  pulled-limits : Ordered lo (minZ mi (mc -ℤ d)) (minZ ma (xc -ℤ d)) hi
+  pulled-limits =
+      let a = o .low in
+      let b = o .mid in
+      let e = o .high in
+      record {
+        low = omega (linear, min-parts mi (mc -ℤ d), sum-parts lo d, diff-parts mc d);
+        mid = omega (linear, min-parts mi (mc -ℤ d), min-parts ma (xc -ℤ d), diff-parts mc d, diff-parts xc d);
+        high = omega (linear, min-parts ma (xc -ℤ d));
+      }
 
-  min-ordered : Ordered lo (clampZ (mc -ℤ d) lo mi) ma hi
-  min-ordered = let a = clamp-high (mc -ℤ d) lo mi (o .low) in record { low = clamp-low (mc -ℤ d) lo mi (o .low); mid = omega linear; high = o .high }
+  pulled-gaps : ((minZ mi (mc -ℤ d) +ℤ d) ≤ℤ mc) × ((minZ ma (xc -ℤ d) +ℤ d) ≤ℤ xc)
+  pulled-gaps =
+      (omega (linear, min-parts mi (mc -ℤ d), sum-parts (minZ mi (mc -ℤ d)) d, diff-parts mc d), omega (linear, min-parts ma (xc -ℤ d), sum-parts (minZ ma (xc -ℤ d)) d, diff-parts xc d))
 
-  min-gap : (clampZ (mc -ℤ d) lo mi +ℤ d) ≤ℤ mc
-  min-gap =
-      let m = clampZ (mc -ℤ d) lo mi in
-      let a = clamp-below (mc -ℤ d) (mc -ℤ d) lo mi (omega linear) (omega (linear, sum-parts lo d, diff-parts mc d)) in
-      omega (linear, sum-parts m d, diff-parts mc d)
+  -- the two steps of repair
+  min-step : clampZ (mc -ℤ d) lo mi ≡ minZ mi (mc -ℤ d)
+  min-step = clamp-lesser (mc -ℤ d) lo mi (omega (linear, sum-parts lo d, diff-parts mc d)) (o .low)
 
-module _ (d lo hi mi ma mc xc : ℤ) (o : Ordered lo mi ma hi) (c : mc ≤ℤ xc) (g : (mi +ℤ d) ≤ℤ mc) where
-  -- the second is the lesser of itself and cooling maximum − dead band
-  pulled-max : clampZ (xc -ℤ d) mi ma ≡ minZ ma (xc -ℤ d)
-  pulled-max =
-      let a = clamp-high (xc -ℤ d) mi ma (o .mid) in
-      let b = clamp-below (xc -ℤ d) (xc -ℤ d) mi ma (omega linear) (omega (linear, sum-parts mi d, diff-parts xc d)) in
-      let e = clamp-above (minZ ma (xc -ℤ d)) (xc -ℤ d) mi ma (omega (linear, min-parts ma (xc -ℤ d))) (omega (linear, min-parts ma (xc -ℤ d))) in
-      omega (linear, min-parts ma (xc -ℤ d))
+  max-step : clampZ (xc -ℤ d) (clampZ (mc -ℤ d) lo mi) ma ≡ minZ ma (xc -ℤ d)
+  max-step =
+      ap (λ (x : ℤ). clampZ (xc -ℤ d) x ma) min-step
+      ∙ clamp-lesser (xc -ℤ d) (minZ mi (mc -ℤ d)) ma (omega (linear, min-parts mi (mc -ℤ d), diff-parts mc d, diff-parts xc d)) (let b = o .mid in omega (linear, min-parts mi (mc -ℤ d)))
 
-  -- so "but not below the minimum" never acts
-  floor-unused : maxZ mi (minZ ma (xc -ℤ d)) ≡ clampZ (xc -ℤ d) mi ma
-  floor-unused =
-      let f = clamp-low (xc -ℤ d) mi ma (o .mid) in
-      omega (linear, pulled-max, max-parts mi (minZ ma (xc -ℤ d)))
+abbrev withMode : Settings → ℕ → Settings
+withMode s m = record { heating = s .heating; cooling = s .cooling; minheat = s .minheat; maxheat = s .maxheat; mincool = s .mincool; maxcool = s .maxcool; mode = m }
 
-  max-ordered : Ordered lo mi (clampZ (xc -ℤ d) mi ma) hi
-  max-ordered = let a = clamp-high (xc -ℤ d) mi ma (o .mid) in record { low = o .low; mid = clamp-low (xc -ℤ d) mi ma (o .mid); high = omega linear }
+abbrev withPoints : Settings → Hundredths → Hundredths → Settings
+withPoints s h c = record { heating = h; cooling = c; minheat = s .minheat; maxheat = s .maxheat; mincool = s .mincool; maxcool = s .maxcool; mode = s .mode }
 
-  max-gap : (clampZ (xc -ℤ d) mi ma +ℤ d) ≤ℤ xc
-  max-gap =
-      let x = clampZ (xc -ℤ d) mi ma in
-      let a = clamp-below (xc -ℤ d) (xc -ℤ d) mi ma (omega linear) (omega (linear, sum-parts mi d, diff-parts xc d)) in
-      omega (linear, sum-parts x d, diff-parts xc d)
+abbrev withHeatLimits : Settings → Hundredths → Hundredths → Settings
+withHeatLimits s x y = record { heating = s .heating; cooling = s .cooling; minheat = x; maxheat = y; mincool = s .mincool; maxcool = s .maxcool; mode = s .mode }
+
+abbrev withCoolLimits : Settings → Hundredths → Hundredths → Settings
+withCoolLimits s x y = record { heating = s .heating; cooling = s .cooling; minheat = s .minheat; maxheat = s .maxheat; mincool = x; maxcool = y; mode = s .mode }
 
 module _ (cfg : Config) (v : Valid cfg) where
-  abbrev HeatOrdered : Attrs → Type 0
-  HeatOrdered a = hasHeatLimits cfg ≡ true → Ordered (cfg .absminheat .0) (a .settings .minheat .0) (a .settings .maxheat .0) (cfg .absmaxheat .0)
+  -- both sides' clamped limits
+  module _ (s : Settings) where
+    abbrev minh : ℤ
+    minh = clampZ (s .minheat .0) (cfg .absminheat .0) (cfg .absmaxheat .0)
 
-  abbrev CoolOrdered : Attrs → Type 0
-  CoolOrdered a = hasCoolLimits cfg ≡ true → Ordered (cfg .absmincool .0) (a .settings .mincool .0) (a .settings .maxcool .0) (cfg .absmaxcool .0)
+    abbrev maxh : ℤ
+    maxh = clampZ (s .maxheat .0) minh (cfg .absmaxheat .0)
 
-  abbrev LowGap : Attrs → Type 0
-  LowGap a = auto cfg ≡ true → hasHeatLimits cfg ≡ true → (a .settings .minheat .0 +ℤ deadBand cfg .0) ≤ℤ a .settings .mincool .0
+    abbrev minc : ℤ
+    minc = clampZ (s .mincool .0) (cfg .absmincool .0) (cfg .absmaxcool .0)
 
-  abbrev HighGap : Attrs → Type 0
-  HighGap a = auto cfg ≡ true → hasHeatLimits cfg ≡ true → (a .settings .maxheat .0 +ℤ deadBand cfg .0) ≤ℤ a .settings .maxcool .0
+    abbrev maxc : ℤ
+    maxc = clampZ (s .maxcool .0) minc (cfg .absmaxcool .0)
 
-  heat-clamps : (a : Attrs) → HeatOrdered (clampMaxHeat cfg (clampMinHeat cfg a))
+    abbrev heatClamped : Settings
+    heatClamped = cond (hasHeatLimits cfg) (withHeatLimits s (hundredths minh) (hundredths maxh)) s
+
+    abbrev coolClamped : Settings
+    coolClamped = cond (hasCoolLimits cfg) (withCoolLimits s (hundredths minc) (hundredths maxc)) s
+
+    abbrev heatPulled : Settings
+    heatPulled =
+        let d = deadBand cfg .0 in
+        let m = clampZ (s .mincool .0 -ℤ d) (cfg .absminheat .0) (s .minheat .0) in
+        cond (auto cfg && hasHeatLimits cfg) (withHeatLimits s (hundredths m) (hundredths (clampZ (s .maxcool .0 -ℤ d) m (s .maxheat .0)))) s
+
+    heat-pair : Ordered (cfg .absminheat .0) minh maxh (cfg .absmaxheat .0)
+    heat-pair = paired (s .minheat .0) (s .maxheat .0) (cfg .absminheat .0) (cfg .absmaxheat .0) (v .heat-abs)
+
+    cool-pair : Ordered (cfg .absmincool .0) minc maxc (cfg .absmaxcool .0)
+    cool-pair = paired (s .mincool .0) (s .maxcool .0) (cfg .absmincool .0) (cfg .absmaxcool .0) (v .cool-abs)
+
+    low-gap : auto cfg ≡ true → (cfg .absminheat .0 +ℤ deadBand cfg .0) ≤ℤ minc
+    low-gap t = let g = v .low t in let k = cool-pair .low in omega linear
+
+  -- the steps, two at a time
+  heat-steps : (a : Attrs) → clampMaxHeat cfg (clampMinHeat cfg a) .settings ≡ heatClamped (a .settings)
   unfolding clampMaxHeat clampMinHeat clamped widened
-  heat-clamps a h = rw h (paired (a .settings .minheat .0) (a .settings .maxheat .0) (cfg .absminheat .0) (cfg .absmaxheat .0) (v .heat-abs))
+  heat-steps a = cases (hasHeatLimits cfg) (λ h. rw h refl) (λ h. rw h refl)
 
-  cool-clamps : (a : Attrs) → CoolOrdered (clampMaxCool cfg (clampMinCool cfg a))
+  cool-steps : (a : Attrs) → clampMaxCool cfg (clampMinCool cfg a) .settings ≡ coolClamped (a .settings)
   unfolding clampMaxCool clampMinCool clamped widened
-  cool-clamps a h = rw h (paired (a .settings .mincool .0) (a .settings .maxcool .0) (cfg .absmincool .0) (cfg .absmaxcool .0) (v .cool-abs))
+  cool-steps a = cases (hasCoolLimits cfg) (λ h. rw h refl) (λ h. rw h refl)
 
-  -- cooling's steps leave heating's limits
-  heat-past-cool : (a : Attrs) → HeatOrdered a → HeatOrdered (clampMaxCool cfg (clampMinCool cfg a))
-  unfolding clampMaxCool clampMinCool
-  heat-past-cool a k = by-cond HeatOrdered (hasCoolLimits cfg) _ _ (λ e. by-cond HeatOrdered (hasCoolLimits cfg) _ a (λ f. k) (λ f. k)) (λ e. by-cond HeatOrdered (hasCoolLimits cfg) _ a (λ f. k) (λ f. k))
+  pull-steps : (a : Attrs) → pullMaxHeat cfg (pullMinHeat cfg a) .settings ≡ heatPulled (a .settings)
+  unfolding pullMaxHeat pullMinHeat clamped minus
+  pull-steps a = cases (auto cfg && hasHeatLimits cfg) (λ t. rw t refl) (λ t. rw t refl)
 
-  record Pulled (a : Attrs) : Type 0 where
-    heat : HeatOrdered a
-    cool : CoolOrdered a
-    low : LowGap a
+  steps-formula : (s : Settings) → heatPulled (coolClamped (heatClamped s)) ≡ repairedLimits cfg s
+  unfolding repairedLimits clamped widened
+  steps-formula s =
+      let d = deadBand cfg .0 in
+      cases (auto cfg)
+      (λ t. cases (hasHeatLimits cfg)
+      (λ h. let c : hasCoolLimits cfg ≡ true = sym (v .auto-limits t) ∙ h in
+      let lo = cfg .absminheat .0 in
+      let hi = cfg .absmaxheat .0 in
+      let o = heat-pair s in
+      let k = cool-pair s .mid in
+      let g = low-gap s t in
+      rw t (rw h (rw c (ap₂ (λ (x y : ℤ). withHeatLimits (withCoolLimits s (hundredths (minc s)) (hundredths (maxc s))) (hundredths x) (hundredths y)) (min-step d lo hi (minh s) (maxh s) (minc s) (maxc s) o k g) (max-step d lo hi (minh s) (maxh s) (minc s) (maxc s) o k g)))))
+      (λ h. let c : hasCoolLimits cfg ≡ false = sym (v .auto-limits t) ∙ h in rw t (rw h (rw c refl))))
+      (λ t. cases (hasHeatLimits cfg) (λ h. cases (hasCoolLimits cfg) (λ c. rw t (rw h (rw c refl))) (λ c. rw t (rw h (rw c refl)))) (λ h. cases (hasCoolLimits cfg) (λ c. rw t (rw h (rw c refl))) (λ c. rw t (rw h (rw c refl)))))
 
-  pull-min : (a : Attrs) → HeatOrdered a → CoolOrdered a → Pulled (pullMinHeat cfg a)
-  unfolding pullMinHeat clamped minus
-  pull-min a o c =
-      let s = a .settings in
-      by-cond Pulled (auto cfg && hasHeatLimits cfg) _ a
-      (λ t. let b = both (auto cfg) (hasHeatLimits cfg) t in
-      let k = c (sym (v .auto-limits (b .0)) ∙ b .1) in
-      let l = v .low (b .0) in
-      let g : (cfg .absminheat .0 +ℤ deadBand cfg .0) ≤ℤ s .mincool .0 = omega linear in
-      record {
-        heat = λ h. min-ordered (deadBand cfg .0) _ _ _ _ (s .mincool .0) (s .maxcool .0) (o h) (k .mid) g;
-        cool = c;
-        low = λ e h. min-gap (deadBand cfg .0) _ _ _ _ (s .mincool .0) (s .maxcool .0) (o h) (k .mid) g;
-      })
-      (λ f. record { heat = o; cool = c; low = λ e h. clash (auto cfg && hasHeatLimits cfg) (and-true (auto cfg) (hasHeatLimits cfg) e h) f })
-
-  record Limited (a : Attrs) : Type 0 where
-    heat : HeatOrdered a
-    cool : CoolOrdered a
-    low : LowGap a
-    high : HighGap a
-
-  pull-max : (a : Attrs) → Pulled a → Limited (pullMaxHeat cfg a)
-  unfolding pullMaxHeat clamped minus
-  pull-max a p =
-      let s = a .settings in
-      by-cond Limited (auto cfg && hasHeatLimits cfg) _ a
-      (λ t. let b = both (auto cfg) (hasHeatLimits cfg) t in
-      let k = p .cool (sym (v .auto-limits (b .0)) ∙ b .1) in
-      let g = p .low (b .0) (b .1) in
-      record {
-        heat = λ h. max-ordered (deadBand cfg .0) _ _ _ _ (s .mincool .0) (s .maxcool .0) (p .heat h) (k .mid) g;
-        cool = p .cool;
-        low = p .low;
-        high = λ e h. max-gap (deadBand cfg .0) _ _ _ _ (s .mincool .0) (s .maxcool .0) (p .heat h) (k .mid) g;
-      })
-      (λ f. record {
-        heat = p .heat;
-        cool = p .cool;
-        low = p .low;
-        high = λ e h. clash (auto cfg && hasHeatLimits cfg) (and-true (auto cfg) (hasHeatLimits cfg) e h) f;
-      })
-
-  pub limits-repaired : (a : Attrs) → LimitTests cfg (repairLimits cfg a .settings)
+  limits-by-formula : (a : Attrs) → repairLimits cfg a .settings ≡ repairedLimits cfg (a .settings)
   unfolding repairLimits
-  limits-repaired a =
+  limits-by-formula a =
       let b = clampMaxHeat cfg (clampMinHeat cfg a) in
-      let c = clampMaxCool cfg (clampMinCool cfg b) in
-      let p = pull-max (pullMinHeat cfg c) (pull-min c (heat-past-cool b (heat-clamps a)) (cool-clamps b)) in
-      let s = repairLimits cfg a .settings in
-      record { heat = is-heat-ordered cfg s (p .heat); cool = is-cool-ordered cfg s (p .cool); gap = is-gaps cfg s (λ e h. (p .low e h, p .high e h)) }
+      pull-steps (clampMaxCool cfg (clampMinCool cfg b)) ∙ ap heatPulled (cool-steps b ∙ ap coolClamped (heat-steps a)) ∙ steps-formula (a .settings)
 
-  -- the setpoint steps leave the limits
-  limits-same : (a : Attrs) (h c : Hundredths) → LimitTests cfg (a .settings) → LimitTests cfg (setCooling (setHeating a h) c .settings)
-  unfolding soundHeatLimits soundCoolLimits soundGap
-  limits-same a h c t = record { heat = t .heat; cool = t .cool; gap = t .gap }
+  limits-tested : (s : Settings) → LimitTests cfg (repairedLimits cfg s)
+  unfolding repairedLimits clamped widened
+  limits-tested s =
+      let l = repairedLimits cfg s in
+      let d = deadBand cfg .0 in
+      let lo = cfg .absminheat .0 in
+      let hi = cfg .absmaxheat .0 in
+      let o = heat-pair s in
+      let k = cool-pair s .mid in
+      record {
+        heat = is-heat-ordered cfg l (λ h. cases (auto cfg) (λ t. rw t (rw h (pulled-limits d lo hi (minh s) (maxh s) (minc s) (maxc s) o k (low-gap s t)))) (λ t. rw t (rw h o)));
+        cool = is-cool-ordered cfg l (λ c. rw c (cool-pair s));
+        gap = is-gaps cfg l (λ t h. let c = sym (v .auto-limits t) ∙ h in rw t (rw h (rw c (pulled-gaps d lo hi (minh s) (maxh s) (minc s) (maxc s) o k (low-gap s t)))));
+      }
 
-  abbrev pub Set : Attrs → Type 0
-  Set a = Placed cfg (a .settings)
+  -- the setpoints, from settings whose limits are repaired
+  module _ (s : Settings) where
+    abbrev heat : Hundredths
+    heat = clampHeatSetpoint cfg s (widened (s .heating))
 
-  -- a heating setpoint clamped to the limits in force, whatever it was
-  heating-set : (a : Attrs) (w : Wide) → LimitTests cfg (a .settings) → soundHeating cfg (setHeating a (clampHeatSetpoint cfg (a .settings) w) .settings) ≡ true
-  unfolding soundHeating inHeatLimits minHeatSetpoint maxHeatSetpoint
-  heating-set a w t = implies (heats cfg) _ (λ e. heat-clamped cfg (a .settings) w (in-force cfg (a .settings) v t))
+    abbrev cool : Hundredths
+    cool = clampCoolSetpoint cfg s (widened (s .cooling))
 
-  cooling-set : (a : Attrs) (w : Wide) → LimitTests cfg (a .settings) → soundCooling cfg (setCooling a (clampCoolSetpoint cfg (a .settings) w) .settings) ≡ true
-  unfolding soundCooling inCoolLimits minCoolSetpoint maxCoolSetpoint
-  cooling-set a w t = implies (cools cfg) _ (λ e. cool-clamped cfg (a .settings) w (in-force cfg (a .settings) v t))
+    abbrev clampedPoints : Settings
+    clampedPoints = withPoints s (cond (heats cfg) heat (s .heating)) (cond (cools cfg) cool (s .cooling))
 
-  -- a step on one setpoint leaves the other's test
-  cooling-past : (a : Attrs) (h : Hundredths) → soundCooling cfg (a .settings) ≡ true → soundCooling cfg (setHeating a h .settings) ≡ true
-  unfolding soundCooling inCoolLimits minCoolSetpoint maxCoolSetpoint
-  cooling-past a h k = k
+    abbrev pushedPoints : Settings
+    pushedPoints = withPoints s (cond (heats cfg) heat (s .heating)) (cond (cools cfg) (greaterWithAuto cfg cool heat) (s .cooling))
 
-  heating-past : (a : Attrs) (c : Hundredths) → soundHeating cfg (a .settings) ≡ true → soundHeating cfg (setCooling a c .settings) ≡ true
-  unfolding soundHeating inHeatLimits minHeatSetpoint maxHeatSetpoint
-  heating-past a c k = k
+    abbrev pushed : Settings
+    pushed = cond (auto cfg) (withPoints s (s .heating) (clampCoolSetpoint cfg s (greater (widened (s .cooling)) (plus (s .heating) (deadBand cfg))))) s
 
-  absent-heating : (a : Attrs) → heats cfg ≡ false → soundHeating cfg (a .settings) ≡ true
-  unfolding soundHeating
-  absent-heating a f = simp f
+    -- heating + dead band is not above cooling's limits, so the clamp of cooling's adjustment cuts nothing
+    push-within : InForce cfg s → auto cfg ≡ true → clampCoolSetpoint cfg s (greater (widened cool) (plus heat (deadBand cfg))) ≡ hundredths (maxZ (cool .0) (heat .0 +ℤ deadBand cfg .0))
+    unfolding clampCoolSetpoint clampHeatSetpoint clamped greater widened plus
+    push-within k t =
+        let d = deadBand cfg .0 in
+        let g = k .high t in
+        let l = clamp-low (s .cooling .0) (minCoolSetpoint cfg s .0) (maxCoolSetpoint cfg s .0) (k .cool) in
+        let u = clamp-high (s .cooling .0) (minCoolSetpoint cfg s .0) (maxCoolSetpoint cfg s .0) (k .cool) in
+        let h = clamp-high (s .heating .0) (minHeatSetpoint cfg s .0) (maxHeatSetpoint cfg s .0) (k .heat) in
+        let w = maxZ (cool .0) (heat .0 +ℤ d) in
+        ap hundredths (clamp-within w (minCoolSetpoint cfg s .0) (maxCoolSetpoint cfg s .0) (omega (linear, max-parts (cool .0) (heat .0 +ℤ d))) (omega (linear, max-parts (cool .0) (heat .0 +ℤ d), sum-parts (heat .0) d, sum-parts (maxHeatSetpoint cfg s .0) d)))
 
-  absent-cooling : (a : Attrs) → cools cfg ≡ false → soundCooling cfg (a .settings) ≡ true
-  unfolding soundCooling
-  absent-cooling a f = simp f
+  clamp-steps : (a : Attrs) → clampCooling cfg (clampHeating cfg a) .settings ≡ clampedPoints (a .settings)
+  unfolding clampCooling clampHeating clampCoolSetpoint minCoolSetpoint maxCoolSetpoint
+  clamp-steps a = cases (heats cfg) (λ h. cases (cools cfg) (λ c. rw h (rw c refl)) (λ c. rw h (rw c refl))) (λ h. cases (cools cfg) (λ c. rw h (rw c refl)) (λ c. rw h (rw c refl)))
 
-  abbrev Heated : Attrs → Type 0
-  Heated a = LimitTests cfg (a .settings) × (soundHeating cfg (a .settings) ≡ true)
-
-  heating-clamped : (a : Attrs) → LimitTests cfg (a .settings) → Heated (clampHeating cfg a)
-  unfolding clampHeating
-  heating-clamped a t =
-      let w = widened (a .settings .heating) in
-      by-cond Heated (heats cfg) _ a (λ e. (limits-same a (clampHeatSetpoint cfg (a .settings) w) (a .settings .cooling) t, heating-set a w t)) (λ f. (t, absent-heating a f))
-
-  cooling-clamped : (a : Attrs) → Heated a → Set (clampCooling cfg a)
-  unfolding clampCooling
-  cooling-clamped a k =
-      let w = widened (a .settings .cooling) in
-      let c = clampCoolSetpoint cfg (a .settings) w in
-      by-cond Set (cools cfg) _ a
-      (λ e. record { limits = limits-same a (a .settings .heating) c (k .0); heating = heating-past a c (k .1); cooling = cooling-set a w (k .0) })
-      (λ f. record { limits = k .0; heating = k .1; cooling = absent-cooling a f })
-
-  -- a clamped setpoint of either side keeps all
-  cooling-moved : (a : Attrs) (w : Wide) → Set a → Set (setCooling a (clampCoolSetpoint cfg (a .settings) w))
-  cooling-moved a w k =
-      let c = clampCoolSetpoint cfg (a .settings) w in
-      record { limits = limits-same a (a .settings .heating) c (k .limits); heating = heating-past a c (k .heating); cooling = cooling-set a w (k .limits) }
-
-  heating-moved : (a : Attrs) (w : Wide) → Set a → Set (setHeating a (clampHeatSetpoint cfg (a .settings) w))
-  heating-moved a w k =
-      let h = clampHeatSetpoint cfg (a .settings) w in
-      record { limits = limits-same a h (a .settings .cooling) (k .limits); heating = heating-set a w (k .limits); cooling = cooling-past a h (k .cooling) }
-
-  pub cooling-pushed : (b : Attrs) → Set b → Set (pushCooling cfg b)
+  push-step : (a : Attrs) → pushCooling cfg a .settings ≡ pushed (a .settings)
   unfolding pushCooling
-  cooling-pushed b k =
-      by-cond Set (auto cfg) _ b (λ e. cooling-moved b _ k) (λ f. k)
+  push-step a = cases (auto cfg) (λ t. rw t refl) (λ t. rw t refl)
 
-  heating-pushed : (b : Attrs) → Set b → Set (pushHeating cfg b)
-  unfolding pushHeating
-  heating-pushed b k =
-      by-cond Set (auto cfg) _ b (λ e. heating-moved b _ k) (λ f. k)
+  points-formula : (s : Settings) → InForce cfg s → pushed (clampedPoints s) ≡ pushedPoints s
+  unfolding clampCoolSetpoint minCoolSetpoint maxCoolSetpoint
+  points-formula s k =
+      cases (auto cfg)
+      (λ t. let h = v .auto-heats t in let c = v .auto-cools t in rw t (rw h (rw c (ap (withPoints s (heat s)) (push-within s k t)))))
+      (λ t. rw t refl)
 
-  pub setpoints-clamped : (a : Attrs) → LimitTests cfg (a .settings) → Set (clampCooling cfg (clampHeating cfg a))
-  setpoints-clamped a t = cooling-clamped (clampHeating cfg a) (heating-clamped a t)
-
-  setpoints-repaired : (a : Attrs) → LimitTests cfg (a .settings) → Set (repairSetpoints cfg a)
+  setpoints-by-formula : (a : Attrs) → InForce cfg (a .settings) → repairSetpoints cfg a .settings ≡ pushedPoints (a .settings)
   unfolding repairSetpoints
-  setpoints-repaired a t = let b = clampCooling cfg (clampHeating cfg a) in heating-pushed (pushCooling cfg b) (cooling-pushed b (setpoints-clamped a t))
+  setpoints-by-formula a k = push-step (clampCooling cfg (clampHeating cfg a)) ∙ ap pushed (clamp-steps a) ∙ points-formula (a .settings) k
 
-  mode-past : (a : Attrs) (m : ℕ) → Set a → Set (setMode a m)
+  mode-step : (a : Attrs) → repairMode cfg a .settings ≡ withMode (a .settings) (cond (isSupportedSystemMode cfg (a .settings .mode)) (a .settings .mode) 0)
+  unfolding repairMode
+  mode-step a = cases (isSupportedSystemMode cfg (a .settings .mode)) (λ e. rw e refl) (λ e. rw e refl)
+
+  -- before the mode, and with it
+  points-repaired : (a : Attrs) → repairSetpoints cfg (repairLimits cfg a) .settings ≡ pushedPoints (repairedLimits cfg (a .settings))
+  points-repaired a =
+      let l = limits-by-formula a in
+      let k = in-force cfg (repairedLimits cfg (a .settings)) v (limits-tested (a .settings)) in
+      setpoints-by-formula (repairLimits cfg a) (subst (InForce cfg) (sym l) k) ∙ ap pushedPoints l
+
+  pub by-formula : (a : Attrs) → repaired cfg a .settings ≡ repairedSettings cfg (a .settings)
+  unfolding repaired repairedSettings repairedLimits
+  by-formula a =
+      mode-step (repairSetpoints cfg (repairLimits cfg a))
+      ∙ ap (λ (s : Settings). withMode s (cond (isSupportedSystemMode cfg (s .mode)) (s .mode) 0)) (points-repaired a)
+
+  -- what row 28 asks of limits and setpoints, and the gap
+  pub record Settled (s : Settings) : Type 0 where
+    pub placed : Placed cfg s
+    pub gap : GapKept cfg s
+
+  pushed-settled : (s : Settings) → LimitTests cfg s → Settled (pushedPoints s)
   unfolding soundHeatLimits soundCoolLimits soundGap soundHeating soundCooling inHeatLimits inCoolLimits minHeatSetpoint maxHeatSetpoint minCoolSetpoint maxCoolSetpoint
-  mode-past a m k = record { limits = record { heat = k .limits .heat; cool = k .limits .cool; gap = k .limits .gap }; heating = k .heating; cooling = k .cooling }
+  pushed-settled s l =
+      let k = in-force cfg s v l in
+      let w = widened (s .cooling) in
+      record {
+        placed = record {
+          limits = record { heat = l .heat; cool = l .cool; gap = l .gap };
+          heating = implies (heats cfg) _ (λ h. rw h (heat-clamped cfg s (widened (s .heating)) k));
+          cooling = implies (cools cfg) _ (λ c. cases (auto cfg)
+              (λ t. rw c (rw t (subst (λ (x : Hundredths). inCoolLimits cfg s x ≡ true) (push-within s k t) (cool-clamped cfg s (greater (widened (cool s)) (plus (heat s) (deadBand cfg))) k))))
+              (λ t. rw c (rw t (cool-clamped cfg s w k))));
+        };
+        gap = λ t. let h = v .auto-heats t in let c = v .auto-cools t in rw h (rw c (rw t (omega (linear, max-parts (cool s .0) (heat s .0 +ℤ deadBand cfg .0)))));
+      }
+
+  mode-settled : (s : Settings) (m : ℕ) → Settled s → Settled (withMode s m)
+  unfolding soundHeatLimits soundCoolLimits soundGap soundHeating soundCooling inHeatLimits inCoolLimits minHeatSetpoint maxHeatSetpoint minCoolSetpoint maxCoolSetpoint
+  mode-settled s m k =
+      let p = k .placed in
+      record { placed = record { limits = record { heat = p .limits .heat; cool = p .limits .cool; gap = p .limits .gap }; heating = p .heating; cooling = p .cooling }; gap = k .gap }
+
+  points-settled : (a : Attrs) → Settled (repairSetpoints cfg (repairLimits cfg a) .settings)
+  points-settled a = subst Settled (sym (points-repaired a)) (pushed-settled (repairedLimits cfg (a .settings)) (limits-tested (a .settings)))
 
   off-supported : isSupportedSystemMode cfg 0 ≡ true
   unfolding isSupportedSystemMode
   off-supported = refl
 
-  abbrev SetWhole : Attrs → Type 0
-  SetWhole a = Placed cfg (a .settings) × (isSupportedSystemMode cfg (a .settings .mode) ≡ true)
-
-  pub repair-placed : (a : Attrs) → Placed cfg (repaired cfg a .settings) × (isSupportedSystemMode cfg (repaired cfg a .settings .mode) ≡ true)
-  unfolding repaired repairMode
-  repair-placed a =
+  pub repair-settled : (a : Attrs) → Settled (repaired cfg a .settings)
+  unfolding repaired
+  repair-settled a =
       let b = repairSetpoints cfg (repairLimits cfg a) in
-      let k = setpoints-repaired (repairLimits cfg a) (limits-repaired a) in
-      by-cond SetWhole (isSupportedSystemMode cfg (b .settings .mode)) b (setMode b 0) (λ e. (k, e)) (λ f. (mode-past b 0 k, off-supported))
+      let m = cond (isSupportedSystemMode cfg (b .settings .mode)) (b .settings .mode) 0 in
+      subst Settled (sym (mode-step b)) (mode-settled (b .settings) m (points-settled a))
 
-abbrev limitsOf : ℤ → ℤ → ℤ → ℤ → LimitNumbers
-limitsOf x y z w = record { minheat = x; maxheat = y; mincool = z; maxcool = w }
+  pub repair-mode : (a : Attrs) → isSupportedSystemMode cfg (repaired cfg a .settings .mode) ≡ true
+  unfolding repairedSettings
+  repair-mode a =
+      subst (λ (s : Settings). isSupportedSystemMode cfg (s .mode) ≡ true) (sym (by-formula a))
+      (by-cond (λ (m : ℕ). isSupportedSystemMode cfg m ≡ true) (isSupportedSystemMode cfg (a .settings .mode)) (a .settings .mode) 0 (λ e. e) (λ e. off-supported))
 
--- the limits, by the paper's own steps
-module _ (cfg : Config) (v : Valid cfg) where
-  heat-written : (a : Attrs) → limitNumbers (clampMaxHeat cfg (clampMinHeat cfg a) .settings) ≡ writtenHeat cfg (limitNumbers (a .settings))
-  unfolding clampMaxHeat clampMinHeat writtenHeat clamped widened
-  heat-written a = cases (hasHeatLimits cfg) (λ h. rw h refl) (λ h. rw h refl)
+same-settings : (s : Settings) → sameSettings s s ≡ true
+unfolding sameSettings equal
+same-settings s =
+    let same : (z : ℤ) → eqZ z z ≡ true = λ z. omega linear in
+    simp (same (s .heating .0), same (s .cooling .0), same (s .minheat .0), same (s .maxheat .0), same (s .mincool .0), same (s .maxcool .0), eq-eqb (s .mode) (s .mode) refl)
 
-  cool-written : (a : Attrs) → limitNumbers (clampMaxCool cfg (clampMinCool cfg a) .settings) ≡ writtenCool cfg (limitNumbers (a .settings))
-  unfolding clampMaxCool clampMinCool writtenCool clamped widened
-  cool-written a = cases (hasCoolLimits cfg) (λ h. rw h refl) (λ h. rw h refl)
+or-false : (b : Bool) → b || false ≡ b
+or-false true = refl
+or-false false = refl
 
-  pull-written : (a : Attrs) → HeatOrdered cfg v a → CoolOrdered cfg v a → limitNumbers (pullMaxHeat cfg (pullMinHeat cfg a) .settings) ≡ writtenPull cfg (limitNumbers (a .settings))
-  unfolding pullMaxHeat pullMinHeat writtenPull clamped minus
-  pull-written a heat cool =
-      cases (auto cfg && hasHeatLimits cfg)
-      (λ t. let s = a .settings in
+-- a store of what is there leaves settings and dirty mark
+stored-same : (a : Attrs) → updated a (a .settings) ≡ a
+stored-same a = ap (λ (d : Bool). record { settings = a .settings; dirty = d }) (ap (λ (b : Bool). a .dirty || not b) (same-settings (a .settings)) ∙ or-false (a .dirty))
+
+-- a step that stores what is there, if it stores
+idle : (a : Attrs) (t : Bool) (set : Hundredths → Attrs) (x y : Hundredths) → set y ≡ a → (t ≡ true → x ≡ y) → cond t (set x) a ≡ a
+idle a t set x y e f = by-cond (λ (b : Attrs). b ≡ a) t (set x) a (λ h. ap set (f h) ∙ e) (λ h. refl)
+
+-- settled settings: no step changes anything
+module _ (cfg : Config) (v : Valid cfg) (a : Attrs) (k : Settled cfg v (a .settings)) where
+  heat-tests : hasHeatLimits cfg ≡ true → Ordered (cfg .absminheat .0) (a .settings .minheat .0) (a .settings .maxheat .0) (cfg .absmaxheat .0)
+  heat-tests = heat-ordered cfg (a .settings) (k .placed .limits .heat)
+
+  cool-tests : hasCoolLimits cfg ≡ true → Ordered (cfg .absmincool .0) (a .settings .mincool .0) (a .settings .maxcool .0) (cfg .absmaxcool .0)
+  cool-tests = cool-ordered cfg (a .settings) (k .placed .limits .cool)
+
+  min-heat-same : clampMinHeat cfg a ≡ a
+  unfolding clampMinHeat clamped widened
+  min-heat-same =
+      idle a (hasHeatLimits cfg) (setMinHeat a) _ (a .settings .minheat) (stored-same a)
+      (λ h. let o = heat-tests h in let m = o .mid in let u = o .high in ap hundredths (clamp-within _ _ _ (o .low) (omega linear)))
+
+  max-heat-same : clampMaxHeat cfg a ≡ a
+  unfolding clampMaxHeat clamped widened
+  max-heat-same =
+      idle a (hasHeatLimits cfg) (setMaxHeat a) _ (a .settings .maxheat) (stored-same a) (λ h. let o = heat-tests h in ap hundredths (clamp-within _ _ _ (o .mid) (o .high)))
+
+  min-cool-same : clampMinCool cfg a ≡ a
+  unfolding clampMinCool clamped widened
+  min-cool-same =
+      idle a (hasCoolLimits cfg) (setMinCool a) _ (a .settings .mincool) (stored-same a)
+      (λ h. let o = cool-tests h in let m = o .mid in let u = o .high in ap hundredths (clamp-within _ _ _ (o .low) (omega linear)))
+
+  max-cool-same : clampMaxCool cfg a ≡ a
+  unfolding clampMaxCool clamped widened
+  max-cool-same =
+      idle a (hasCoolLimits cfg) (setMaxCool a) _ (a .settings .maxcool) (stored-same a) (λ h. let o = cool-tests h in ap hundredths (clamp-within _ _ _ (o .mid) (o .high)))
+
+  pull-min-same : pullMinHeat cfg a ≡ a
+  unfolding pullMinHeat clamped minus
+  pull-min-same =
+      let s = a .settings in
+      idle a (auto cfg && hasHeatLimits cfg) (setMinHeat a) _ (s .minheat) (stored-same a)
+      (λ t. let b = both (auto cfg) (hasHeatLimits cfg) t in
+      let g = gaps cfg s (k .placed .limits .gap) (b .0) (b .1) .0 in
+      ap hundredths (clamp-upper _ _ _ (heat-tests (b .1) .low) (omega (linear, sum-parts (s .minheat .0) (deadBand cfg .0), diff-parts (s .mincool .0) (deadBand cfg .0)))))
+
+  pull-max-same : pullMaxHeat cfg a ≡ a
+  unfolding pullMaxHeat clamped minus
+  pull-max-same =
+      let s = a .settings in
+      idle a (auto cfg && hasHeatLimits cfg) (setMaxHeat a) _ (s .maxheat) (stored-same a)
+      (λ t. let b = both (auto cfg) (hasHeatLimits cfg) t in
+      let g = gaps cfg s (k .placed .limits .gap) (b .0) (b .1) .1 in
+      ap hundredths (clamp-upper _ _ _ (heat-tests (b .1) .mid) (omega (linear, sum-parts (s .maxheat .0) (deadBand cfg .0), diff-parts (s .maxcool .0) (deadBand cfg .0)))))
+
+  clamp-heating-same : clampHeating cfg a ≡ a
+  unfolding clampHeating clampHeatSetpoint clamped widened
+  clamp-heating-same =
+      idle a (heats cfg) (setHeating a) _ (a .settings .heating) (stored-same a) (λ h. let b = heating-between cfg (a .settings) (k .placed) h in ap hundredths (clamp-within _ _ _ (b .0) (b .1)))
+
+  clamp-cooling-same : clampCooling cfg a ≡ a
+  unfolding clampCooling clampCoolSetpoint clamped widened
+  clamp-cooling-same =
+      idle a (cools cfg) (setCooling a) _ (a .settings .cooling) (stored-same a) (λ c. let b = cooling-between cfg (a .settings) (k .placed) c in ap hundredths (clamp-within _ _ _ (b .0) (b .1)))
+
+  push-cooling-same : pushCooling cfg a ≡ a
+  unfolding pushCooling clampCoolSetpoint clamped greater widened plus
+  push-cooling-same =
+      let c = a .settings .cooling .0 in
+      let w = a .settings .heating .0 +ℤ deadBand cfg .0 in
+      idle a (auto cfg) (setCooling a) _ (a .settings .cooling) (stored-same a)
+      (λ t. let b = cooling-between cfg (a .settings) (k .placed) (v .auto-cools t) in
+      let g = k .gap t in
+      let e : maxZ c w ≡ c = omega (linear, max-parts c w) in
+      ap hundredths (ap (λ (z : ℤ). clampZ z (minCoolSetpoint cfg (a .settings) .0) (maxCoolSetpoint cfg (a .settings) .0)) e ∙ clamp-within _ _ _ (b .0) (b .1)))
+
+  -- document 01's final adjustment
+  push-heating-same : pushHeating cfg a ≡ a
+  unfolding pushHeating clampHeatSetpoint clamped lesser widened minus
+  push-heating-same =
+      let h = a .settings .heating .0 in
+      let c = a .settings .cooling .0 in
       let d = deadBand cfg .0 in
-      let lo = cfg .absminheat .0 in
-      let hi = cfg .absmaxheat .0 in
-      let mi = s .minheat .0 in
-      let ma = s .maxheat .0 in
-      let mc = s .mincool .0 in
-      let xc = s .maxcool .0 in
-      let b = both (auto cfg) (hasHeatLimits cfg) t in
-      let o = heat (b .1) in
-      let k = cool (sym (v .auto-limits (b .0)) ∙ b .1) in
-      let l = v .low (b .0) in
-      let g : (lo +ℤ d) ≤ℤ mc = omega linear in
-      let p = pulled-min d lo hi mi ma mc xc o (k .mid) g in
-      let i = clampZ (mc -ℤ d) lo mi in
-      let f = floor-unused d lo hi i ma mc xc (min-ordered d lo hi mi ma mc xc o (k .mid) g) (k .mid) (min-gap d lo hi mi ma mc xc o (k .mid) g) in
-      rw t (ap₂ (λ (x y : ℤ). limitsOf x y mc xc) p (sym f ∙ ap (λ (x : ℤ). maxZ x (minZ ma (xc -ℤ d))) p)))
-      (λ t. rw t refl)
+      idle a (auto cfg) (setHeating a) _ (a .settings .heating) (stored-same a)
+      (λ t. let b = heating-between cfg (a .settings) (k .placed) (v .auto-heats t) in
+      let g = k .gap t in
+      let e : minZ h (c -ℤ d) ≡ h = omega (linear, min-parts h (c -ℤ d), diff-parts c d, sum-parts h d) in
+      ap hundredths (ap (λ (z : ℤ). clampZ z (minHeatSetpoint cfg (a .settings) .0) (maxHeatSetpoint cfg (a .settings) .0)) e ∙ clamp-within _ _ _ (b .0) (b .1)))
 
-  limits-written : (a : Attrs) → limitNumbers (repairLimits cfg a .settings) ≡ writtenLimits cfg (limitNumbers (a .settings))
-  unfolding repairLimits
-  limits-written a =
-      let b = clampMaxHeat cfg (clampMinHeat cfg a) in
-      let c = clampMaxCool cfg (clampMinCool cfg b) in
-      pull-written c (heat-past-cool cfg v b (heat-clamps cfg v a)) (cool-clamps cfg v b)
-      ∙ ap (writtenPull cfg) (cool-written b ∙ ap (writtenCool cfg) (heat-written a))
-
--- the steps after them leave the limits
-module _ (cfg : Config) where
-  abbrev Keeps : Attrs → Attrs → Type 0
-  Keeps a b = limitNumbers (b .settings) ≡ limitNumbers (a .settings)
-
-  setpoints-keep : (a : Attrs) → Keeps a (repairSetpoints cfg a)
-  unfolding repairSetpoints pushHeating pushCooling clampCooling clampHeating
-  setpoints-keep a =
-      let b = clampHeating cfg a in
-      let c = clampCooling cfg b in
-      let e = pushCooling cfg c in
-      by-cond (Keeps e) (auto cfg) _ e (λ t. refl) (λ t. refl)
-      ∙ by-cond (Keeps c) (auto cfg) _ c (λ t. refl) (λ t. refl)
-      ∙ by-cond (Keeps b) (cools cfg) _ b (λ t. refl) (λ t. refl)
-      ∙ by-cond (Keeps a) (heats cfg) _ a (λ t. refl) (λ t. refl)
-
-  mode-keeps : (a : Attrs) → Keeps a (repairMode cfg a)
+  mode-same : isSupportedSystemMode cfg (a .settings .mode) ≡ true → repairMode cfg a ≡ a
   unfolding repairMode
-  mode-keeps a = by-cond (Keeps a) (isSupportedSystemMode cfg (a .settings .mode)) a (setMode a 0) (λ t. refl) (λ t. refl)
+  mode-same m = rw m refl
 
-pub limits-as-written : LimitsAsWritten
-unfolding repaired
-limits-as-written cfg a ok =
-    let l = repairLimits cfg a in
-    mode-keeps cfg (repairSetpoints cfg l) ∙ setpoints-keep cfg l ∙ limits-written cfg (valid cfg ok) a
+  repair-same : isSupportedSystemMode cfg (a .settings .mode) ≡ true → repaired cfg a ≡ a
+  unfolding repaired repairSetpoints repairLimits
+  repair-same m =
+      simp (min-heat-same, max-heat-same, min-cool-same, max-cool-same, pull-min-same, pull-max-same, clamp-heating-same, clamp-cooling-same, push-cooling-same, mode-same m)
+
+pub adjustment-changes-nothing : AdjustmentChangesNothing
+adjustment-changes-nothing cfg a ok =
+    let v = valid cfg ok in push-heating-same cfg v (repairSetpoints cfg (repairLimits cfg a)) (points-settled cfg v a)
+
+pub settings-by-formula : SettingsByFormula
+settings-by-formula cfg a ok = by-formula cfg (valid cfg ok) a
+
+pub second-repair-changes-nothing : SecondRepairChangesNothing
+second-repair-changes-nothing cfg a dirty ok =
+    let v = valid cfg ok in repair-same cfg v (record { settings = repaired cfg a .settings; dirty = dirty }) (repair-settled cfg v a) (repair-mode cfg v a)

@@ -11,6 +11,7 @@ use Rattle.model.specs.Modes.{isSupportedSystemMode, relayMask, runningM
 use Rattle.model.specs.Orders.{askSweep}
 use Rattle.model.specs.Refusals.{firstFailing, unless}
 use Rattle.model.specs.Repair.{clampCooling, clampHeating, clampMaxCool, clampMaxHeat, clampMinCool, clampMinHeat, pullMaxHeat, pullMinHeat, pushCooling, pushHeating, repairLimits, repairMode, repairSetpoints, repaired}
+use Rattle.model.specs.RepairedSettings.{repairedLimits, repairedSettings}
 use Rattle.model.specs.Served.{emitsAny, hasCoolLimits, hasHeatLimits, listed, someCoolLimit, someHeatLimit, supports}
 use Rattle.model.specs.Sound.{sound, soundCoolLimits, soundCooling, soundGap, soundHeatLimits, soundHeating, soundSettings}
 use Rattle.model.specs.Step.{opened, step}
@@ -21,5 +22,5 @@ use Rattle.model.specs.Validation.{accepted, attributeRows, eventRows, f
 use Rattle.model.specs.Writes.{applied, armClock, coolingWithGap, heatingWithGap, namesAbsentSide, pullCooling, pullHeating, raiseBoth, raiseCooling, raiseHeating, raiseLowerSetpoint, raiseSides, recordedIf, relayNotices, setControlSequenceOfOperation, sourceNotices, storeCoolingSetpoint, storeHeatingSetpoint, tooNearCooling, tooNearHeating, writeMaxCoolSetpointLimit, writeMaxHeatSetpointLimit, writeMinCoolSetpointLimit, writeMinHeatSetpointLimit, writeOccupiedCoolingSetpoint, writeOccupiedHeatingSetpoint, writeSystemMode}
 
 unfoldable pub everything : Unit {0}
-unfolding sameSettings clampZ maxZ minZ above apart below clamped equal greater inHundredths less lesser minus plus raised saturatedDifference widened within emit emitAll onlyIf packed packedEvents push pushAll armedClock claimSetpoints recorded servedSetpoints numbers run clampCoolSetpoint clampHeatSetpoint inCoolLimits inHeatLimits maxCoolSetpoint maxHeatSetpoint minCoolSetpoint minHeatSetpoint coolingMessage heatingMessage limitsMessage limitsTaken modeMessage outOfBandMessage isSupportedSystemMode relayMask runningMode runningState sequenceCools sequenceHeats askSweep firstFailing unless clampCooling clampHeating clampMaxCool clampMaxHeat clampMinCool clampMinHeat pullMaxHeat pullMinHeat pushCooling pushHeating repairLimits repairMode repairSetpoints repaired emitsAny hasCoolLimits hasHeatLimits listed someCoolLimit someHeatLimit supports sound soundCoolLimits soundCooling soundGap soundHeatLimits soundHeating soundSettings opened step attributeLocalSetpointChange committed deadline deferredDeadline eventsOf rowNotices sameSnapshot seedEvents snapshotOf started sweep sweepEvents swept tableNotices takeEvents coolingEmitted heatingEmitted modeEmitted relaysEmitted runningModeEmitted temperatureEmitted timer eventDue reportedTemperature deadBand accepted attributeRows eventRows featureRows limitRows numberRows validated applied armClock coolingWithGap heatingWithGap namesAbsentSide pullCooling pullHeating raiseBoth raiseCooling raiseHeating raiseLowerSetpoint raiseSides recordedIf relayNotices setControlSequenceOfOperation sourceNotices storeCoolingSetpoint storeHeatingSetpoint tooNearCooling tooNearHeating writeMaxCoolSetpointLimit writeMaxHeatSetpointLimit writeMinCoolSetpointLimit writeMinHeatSetpointLimit writeOccupiedCoolingSetpoint writeOccupiedHeatingSetpoint writeSystemMode
+unfolding sameSettings clampZ maxZ minZ above apart below clamped equal greater inHundredths less lesser minus plus raised saturatedDifference widened within emit emitAll onlyIf packed packedEvents push pushAll armedClock claimSetpoints recorded servedSetpoints numbers run clampCoolSetpoint clampHeatSetpoint inCoolLimits inHeatLimits maxCoolSetpoint maxHeatSetpoint minCoolSetpoint minHeatSetpoint coolingMessage heatingMessage limitsMessage limitsTaken modeMessage outOfBandMessage isSupportedSystemMode relayMask runningMode runningState sequenceCools sequenceHeats askSweep firstFailing unless clampCooling clampHeating clampMaxCool clampMaxHeat clampMinCool clampMinHeat pullMaxHeat pullMinHeat pushCooling pushHeating repairLimits repairMode repairSetpoints repaired repairedLimits repairedSettings emitsAny hasCoolLimits hasHeatLimits listed someCoolLimit someHeatLimit supports sound soundCoolLimits soundCooling soundGap soundHeatLimits soundHeating soundSettings opened step attributeLocalSetpointChange committed deadline deferredDeadline eventsOf rowNotices sameSnapshot seedEvents snapshotOf started sweep sweepEvents swept tableNotices takeEvents coolingEmitted heatingEmitted modeEmitted relaysEmitted runningModeEmitted temperatureEmitted timer eventDue reportedTemperature deadBand accepted attributeRows eventRows featureRows limitRows numberRows validated applied armClock coolingWithGap heatingWithGap namesAbsentSide pullCooling pullHeating raiseBoth raiseCooling raiseHeating raiseLowerSetpoint raiseSides recordedIf relayNotices setControlSequenceOfOperation sourceNotices storeCoolingSetpoint storeHeatingSetpoint tooNearCooling tooNearHeating writeMaxCoolSetpointLimit writeMaxHeatSetpointLimit writeMinCoolSetpointLimit writeMinHeatSetpointLimit writeOccupiedCoolingSetpoint writeOccupiedHeatingSetpoint writeSystemMode
 everything = tt

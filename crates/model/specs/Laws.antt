@@ -10,13 +10,11 @@ use Rattle.model.specs.Answers.{Outcome, slot, answer, quiet}
 use Rattle.model.specs.Refusals.{Row, FirstCause, Clear}
 use Rattle.model.specs.Attribution.{armedClock}
 use Rattle.model.specs.Validation.{validationRows, validated, accepted}
-use Rattle.model.specs.Repair.{repaired, limitNumbers, writtenLimits}
 use Rattle.model.specs.Sound.{sound}
 use Rattle.model.specs.Causes.{causes}
 use Rattle.model.specs.Step.{opened, step}
 use Rattle.records.specs.declared.Config.{Config}
 use Rattle.records.specs.declared.Settings.{Settings}
-use Rattle.records.specs.declared.Attrs.{Attrs}
 use Rattle.records.specs.declared.Controller.{Controller}
 use Rattle.records.specs.declared.Readings.{Readings}
 use Rattle.records.specs.declared.Call.{Call}
@@ -76,7 +74,3 @@ StepSound = (cfg : Config) (r : Controller) (d : Readings) (k : Call) → sound 
 -- 28 comes before every other number, and changes nothing
 abbrev pub UnsoundRefused : Type 0
 UnsoundRefused = (cfg : Config) (r : Controller) (d : Readings) (k : Call) → sound cfg r ≡ false → step cfg r d k ≡ quiet 28 r
-
--- on an accepted configuration repair leaves the limits that the paper's own steps give, unserved ones as they were
-abbrev pub LimitsAsWritten : Type 0
-LimitsAsWritten = (cfg : Config) (a : Attrs) → accepted cfg ≡ true → limitNumbers (repaired cfg a .settings) ≡ writtenLimits cfg (limitNumbers (a .settings))

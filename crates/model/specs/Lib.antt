@@ -9,6 +9,7 @@ pub mod Temperature
 pub mod Attribution
 pub mod Validation
 pub mod Repair
+pub mod RepairedSettings
 pub mod Sound
 pub mod Writes
 pub mod Messages

@@ -118,19 +118,6 @@ fn push_cooling(cfg: Config, a: Attrs) -> Attrs
     a
 }
 
-fn push_heating(cfg: Config, a: Attrs) -> Attrs
-    ensures { λ r. ⌜ r ≡ spec.pushHeating cfg a ⌝ }
-{
-    if features::auto(cfg) {
-        let mut s = a.settings;
-        let w = units::sub(s.cooling, limits::dead_band(cfg));
-        let l = ranges::min(units::widen(s.heating), w);
-        s.heating = clamps::clamp_heat_setpoint(cfg, a.settings, l);
-        return attrs::update_attrs(a, s);
-    }
-    a
-}
-
 fn repair_mode(cfg: Config, a: Attrs) -> Attrs
     ensures { λ r. ⌜ r ≡ spec.repairMode cfg a ⌝ }
 {
@@ -154,7 +141,7 @@ fn repair_setpoints(cfg: Config, a: Attrs) -> Attrs
     ensures { λ r. ⌜ r ≡ spec.repairSetpoints cfg a ⌝ }
 {
     let b = clamp_cooling(cfg, clamp_heating(cfg, a));
-    push_heating(cfg, push_cooling(cfg, b))
+    push_cooling(cfg, b)
 }
 
 pub fn repair(cfg: Config, a: Attrs) -> Attrs

@@ -10,5 +10,4 @@ repair-setpoints-spec =
     (λ c κs. tt)
     (λ c κs. tt)
     (λ c κs. tt)
-    (λ c κs. tt)
-    (λ c. simp (c .push-heating .ensures, c .before .push-cooling .ensures, c .before .before .clamp-cooling .ensures, c .before .before .before .clamp-heating .ensures)))
+    (λ c. simp (c .push-cooling .ensures, c .before .clamp-cooling .ensures, c .before .before .clamp-heating .ensures)))
