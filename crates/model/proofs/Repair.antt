@@ -16,9 +16,10 @@ use Rattle.model.specs.Units.{deadBand}
 use Rattle.model.specs.Limits.{minHeatSetpoint, maxHeatSetpoint, minCoolSetpoint, maxCoolSetpoint, inHeatLimits, inCoolLimits, clampHeatSetpoint, clampCoolSetpoint}
 use Rattle.model.specs.Modes.{isSupportedSystemMode}
 use Rattle.model.specs.Repair.{clampMinHeat, clampMaxHeat, clampMinCool, clampMaxCool, pullMinHeat, pullMaxHeat, clampHeating, clampCooling, pushCooling, pushHeating, repairMode, repairLimits, repairSetpoints, repaired}
-use Rattle.model.specs.RepairedSettings.{greaterWithAuto, repairedLimits, repairedSettings, AdjustmentChangesNothing, SettingsByFormula, SecondRepairChangesNothing}
+use Rattle.model.specs.RepairedSettings.{greaterWithAuto, supportedMode, repairedLimits, repairedSettings, AdjustmentChangesNothing, SettingsByFormula, SecondRepairChangesNothing, NoStepUndone, AdjustmentActs}
 use Rattle.model.specs.Sound.{soundHeatLimits, soundCoolLimits, soundGap, soundHeating, soundCooling}
 use Rattle.model.specs.Claims.{GapKept}
+use Rattle.model.specs.Everything.{everything}
 use Rattle.records.specs.declared.Config.{Config}
 use Rattle.records.specs.declared.Settings.{Settings}
 use Rattle.records.specs.declared.Attrs.{Attrs}
@@ -204,7 +205,7 @@ module _ (cfg : Config) (v : Valid cfg) where
   unfolding repairSetpoints
   setpoints-by-formula a k = push-step (clampCooling cfg (clampHeating cfg a)) ∙ ap pushed (clamp-steps a) ∙ points-formula (a .settings) k
 
-  mode-step : (a : Attrs) → repairMode cfg a .settings ≡ withMode (a .settings) (cond (isSupportedSystemMode cfg (a .settings .mode)) (a .settings .mode) 0)
+  mode-step : (a : Attrs) → repairMode cfg a .settings ≡ withMode (a .settings) (supportedMode cfg (a .settings .mode))
   unfolding repairMode
   mode-step a = cases (isSupportedSystemMode cfg (a .settings .mode)) (λ e. rw e refl) (λ e. rw e refl)
 
@@ -219,7 +220,7 @@ module _ (cfg : Config) (v : Valid cfg) where
   unfolding repaired repairedSettings repairedLimits
   by-formula a =
       mode-step (repairSetpoints cfg (repairLimits cfg a))
-      ∙ ap (λ (s : Settings). withMode s (cond (isSupportedSystemMode cfg (s .mode)) (s .mode) 0)) (points-repaired a)
+      ∙ ap (λ (s : Settings). withMode s (supportedMode cfg (s .mode))) (points-repaired a)
 
   -- what row 28 asks of limits and setpoints, and the gap
   pub record Settled (s : Settings) : Type 0 where
@@ -259,8 +260,7 @@ module _ (cfg : Config) (v : Valid cfg) where
   unfolding repaired
   repair-settled a =
       let b = repairSetpoints cfg (repairLimits cfg a) in
-      let m = cond (isSupportedSystemMode cfg (b .settings .mode)) (b .settings .mode) 0 in
-      subst Settled (sym (mode-step b)) (mode-settled (b .settings) m (points-settled a))
+      subst Settled (sym (mode-step b)) (mode-settled (b .settings) (supportedMode cfg (b .settings .mode)) (points-settled a))
 
   pub repair-mode : (a : Attrs) → isSupportedSystemMode cfg (repaired cfg a .settings .mode) ≡ true
   unfolding repairedSettings
@@ -387,3 +387,12 @@ settings-by-formula cfg a ok = by-formula cfg (valid cfg ok) a
 pub second-repair-changes-nothing : SecondRepairChangesNothing
 second-repair-changes-nothing cfg a dirty ok =
     let v = valid cfg ok in repair-same cfg v (record { settings = repaired cfg a .settings; dirty = dirty }) (repair-settled cfg v a) (repair-mode cfg v a)
+
+pub no-step-undone : NoStepUndone
+no-step-undone cfg a ok e =
+    let v = valid cfg ok in
+    repair-same cfg v a (subst (Settled cfg v) e (repair-settled cfg v a)) (subst (λ (s : Settings). isSupportedSystemMode cfg (s .mode) ≡ true) e (repair-mode cfg v a))
+
+pub adjustment-acts : AdjustmentActs
+unfolding everything
+adjustment-acts = (refl, refl, refl)

@@ -1,12 +1,11 @@
 -- Line 3 at work: lists that meet its premises on document 01's plant, on one that only heats and on one that only cools; what its premises rule out;
--- document 01's four traps, computed; and what the premise of C-24 rules out. docs/THEOREM.md describes each.
+-- and document 01's four traps, computed. docs/THEOREM.md describes each.
 use mathlib.Core.Path.{_≡_}
 use mathlib.Core.Bool.{true, false}
 use mathlib.Core.List.{List, [], _∷_, _++_}
 use Prim.Native.Nat.{ℕ}
 use lib.IntN.{ℤ, pos, negsuc}
-use Rattle.model.specs.Validation.{validated, accepted}
-use Rattle.model.specs.Repair.{pushHeating, repairLimits, repairSetpoints}
+use Rattle.model.specs.Validation.{accepted}
 use Rattle.model.specs.Step.{opened, step}
 use Rattle.model.specs.Plant.{at, plant, plantSettings, noReadings}
 use Rattle.model.specs.Claims.{Entry, entry, limitsEntry, run, numbers, LimitsThenWrites, ModeWritten}
@@ -167,29 +166,3 @@ raised mode = step plant first (nodeAt 7) (RaiseLowerSetpoint mode (record { 0 =
 
 abbrev pub ArmedSecondOnce : Type 0
 ArmedSecondOnce = (raised 0 .change .timestamp ≡ 7) × (raised 2 .change .timestamp ≡ 0) × (raised 2 .change .armed ≡ NoSecond)
-
--- C-24: the smallest input at which the final adjustment acts. ABS_MAX of heating is one hundredth above cooling's, without dead band and served limits,
--- so rows 1 to 19 and 21 pass the configuration and row 20 refuses it; heating at that maximum is moved by one hundredth
-abbrev pub maximaTooNear : Config
-maximaTooNear = record {
-  revision = 11;
-  features = 0x23;
-  attributes = 436600833;
-  events = 0;
-  commands = 1;
-  absminheat = at 0;
-  absmaxheat = at 1;
-  absmincool = at 0;
-  absmaxcool = at 0;
-  deadband = record { 0 = pos 0 };
-  sequence = 4;
-  delta = at 0;
-}
-
-abbrev pub heatingAt : ℕ → Settings
-heatingAt h = record { heating = at h; cooling = at 0; minheat = at 0; maxheat = at 0; mincool = at 0; maxcool = at 0; mode = 0 }
-
-abbrev pub AdjustmentActs : Type 0
-AdjustmentActs =
-    let b = repairSetpoints maximaTooNear (repairLimits maximaTooNear (record { settings = heatingAt 1; dirty = false })) in
-    (validated maximaTooNear ≡ 20) × (b ≡ record { settings = heatingAt 1; dirty = false }) × (pushHeating maximaTooNear b ≡ record { settings = heatingAt 0; dirty = true })

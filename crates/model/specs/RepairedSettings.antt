@@ -1,15 +1,17 @@
 -- Document 02, C-24: the settings after repair on an accepted configuration, one formula each. What is not served stays as given.
 use mathlib.Core.Path.{_≡_}
-use mathlib.Core.Bool.{Bool, true, cond}
-use lib.IntN.{_+ℤ_, _-ℤ_}
+use mathlib.Core.Bool.{Bool, true, false, cond}
+use Prim.Native.Nat.{ℕ}
+use lib.IntN.{pos, _+ℤ_, _-ℤ_}
 use Rattle.integers.specs.Clamp.{maxZ, minZ}
 use Rattle.units.specs.Units.{hundredths, widened, clamped}
 use Rattle.units.specs.declared.Hundredths.{Hundredths}
+use Rattle.records.specs.Records.{zeroHundredths}
 use Rattle.model.specs.Served.{heats, cools, auto, hasHeatLimits, hasCoolLimits}
 use Rattle.model.specs.Units.{deadBand}
 use Rattle.model.specs.Limits.{clampHeatSetpoint, clampCoolSetpoint}
 use Rattle.model.specs.Modes.{isSupportedSystemMode}
-use Rattle.model.specs.Validation.{accepted}
+use Rattle.model.specs.Validation.{validated, accepted}
 use Rattle.model.specs.Repair.{pushHeating, repairLimits, repairSetpoints, repaired}
 use Rattle.records.specs.declared.Config.{Config}
 use Rattle.records.specs.declared.Settings.{Settings}
@@ -22,6 +24,10 @@ lesserWithAuto cfg heat cool = cond (auto cfg) (hundredths (minZ (heat .0) (cool
 -- with AUTO the greater of cooling and heating + dead band
 abbrev pub greaterWithAuto : Config → Hundredths → Hundredths → Hundredths
 greaterWithAuto cfg cool heat = cond (auto cfg) (hundredths (maxZ (cool .0) (heat .0 +ℤ deadBand cfg .0))) cool
+
+-- an unsupported mode becomes Off
+abbrev pub supportedMode : Config → ℕ → ℕ
+supportedMode cfg m = cond (isSupportedSystemMode cfg m) m 0
 
 -- the four limits, the rest as given
 unfoldable pub repairedLimits : Config → Settings → Settings
@@ -53,7 +59,7 @@ repairedSettings cfg s =
       maxheat = l .maxheat;
       mincool = l .mincool;
       maxcool = l .maxcool;
-      mode = cond (isSupportedSystemMode cfg (s .mode)) (s .mode) 0;
+      mode = supportedMode cfg (s .mode);
     }
 
 -- document 01's final heating adjustment leaves settings and dirty mark as they are
@@ -71,3 +77,33 @@ abbrev pub SecondRepairChangesNothing : Type 0
 SecondRepairChangesNothing =
     (cfg : Config) (a : Attrs) (dirty : Bool) → accepted cfg ≡ true
     → repaired cfg (record { settings = repaired cfg a .settings; dirty = dirty }) ≡ record { settings = repaired cfg a .settings; dirty = dirty }
+
+-- a repair that ends at the settings that it began with changed none on the way, so it sets no dirty mark
+abbrev pub NoStepUndone : Type 0
+NoStepUndone = (cfg : Config) (a : Attrs) → accepted cfg ≡ true → repaired cfg a .settings ≡ a .settings → repaired cfg a ≡ a
+
+-- without the premise the final adjustment may act. The smallest input: HEAT, COOL and AUTO with the attributes that row 5 asks for and no limits, no dead band, and
+-- ABS_MAX of heating one hundredth above cooling's, so that row 20 alone refuses it; heating at that maximum is moved by one hundredth
+abbrev pub maximaTooNear : Config
+maximaTooNear = record {
+  revision = 11;
+  features = 0x23;
+  attributes = 0x1A060001;
+  events = 0;
+  commands = 1;
+  absminheat = zeroHundredths;
+  absmaxheat = hundredths (pos 1);
+  absmincool = zeroHundredths;
+  absmaxcool = zeroHundredths;
+  deadband = record { 0 = pos 0 };
+  sequence = 4;
+  delta = zeroHundredths;
+}
+
+abbrev pub heatingAt : ℕ → Settings
+heatingAt h = record { heating = hundredths (pos h); cooling = zeroHundredths; minheat = zeroHundredths; maxheat = zeroHundredths; mincool = zeroHundredths; maxcool = zeroHundredths; mode = 0 }
+
+abbrev pub AdjustmentActs : Type 0
+AdjustmentActs =
+    let b = repairSetpoints maximaTooNear (repairLimits maximaTooNear (record { settings = heatingAt 1; dirty = false })) in
+    (validated maximaTooNear ≡ 20) × (b ≡ record { settings = heatingAt 1; dirty = false }) × (pushHeating maximaTooNear b ≡ record { settings = heatingAt 0; dirty = true })
