@@ -16,7 +16,7 @@ use Rattle.model.specs.Units.{deadBand}
 use Rattle.model.specs.Limits.{minHeatSetpoint, maxHeatSetpoint, minCoolSetpoint, maxCoolSetpoint, inHeatLimits, inCoolLimits, clampHeatSetpoint, clampCoolSetpoint}
 use Rattle.model.specs.Modes.{isSupportedSystemMode}
 use Rattle.model.specs.Repair.{clampMinHeat, clampMaxHeat, clampMinCool, clampMaxCool, pullMinHeat, pullMaxHeat, clampHeating, clampCooling, pushCooling, pushHeating, repairMode, repairLimits, repairSetpoints, repaired}
-use Rattle.model.specs.RepairedSettings.{greaterWithAuto, supportedMode, repairedLimits, repairedSettings, AdjustmentChangesNothing, SettingsByFormula, SecondRepairChangesNothing, NoStepUndone, AdjustmentActs}
+use Rattle.model.specs.RepairedSettings.{greaterWithAuto, supportedMode, repairedLimits, repairedSettings, AdjustmentChangesNothing, RepairUnchanged, SettingsByFormula, SecondRepairChangesNothing, NoStepUndone, AdjustmentActs}
 use Rattle.model.specs.Sound.{soundHeatLimits, soundCoolLimits, soundGap, soundHeating, soundCooling}
 use Rattle.model.specs.Claims.{GapKept}
 use Rattle.model.specs.Everything.{everything}
@@ -380,6 +380,10 @@ module _ (cfg : Config) (v : Valid cfg) (a : Attrs) (k : Settled cfg v (a .setti
 pub adjustment-changes-nothing : AdjustmentChangesNothing
 adjustment-changes-nothing cfg a ok =
     let v = valid cfg ok in push-heating-same cfg v (repairSetpoints cfg (repairLimits cfg a)) (points-settled cfg v a)
+
+pub repair-unchanged : RepairUnchanged
+unfolding repaired
+repair-unchanged cfg a ok = ap (repairMode cfg) (adjustment-changes-nothing cfg a ok)
 
 pub settings-by-formula : SettingsByFormula
 settings-by-formula cfg a ok = by-formula cfg (valid cfg ok) a

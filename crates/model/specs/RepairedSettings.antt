@@ -12,7 +12,7 @@ use Rattle.model.specs.Units.{deadBand}
 use Rattle.model.specs.Limits.{clampHeatSetpoint, clampCoolSetpoint}
 use Rattle.model.specs.Modes.{isSupportedSystemMode}
 use Rattle.model.specs.Validation.{validated, accepted}
-use Rattle.model.specs.Repair.{pushHeating, repairLimits, repairSetpoints, repaired}
+use Rattle.model.specs.Repair.{pushHeating, repairMode, repairLimits, repairSetpoints, repaired}
 use Rattle.records.specs.declared.Config.{Config}
 use Rattle.records.specs.declared.Settings.{Settings}
 use Rattle.records.specs.declared.Attrs.{Attrs}
@@ -67,6 +67,10 @@ abbrev pub AdjustmentChangesNothing : Type 0
 AdjustmentChangesNothing =
     (cfg : Config) (a : Attrs) → accepted cfg ≡ true
     → pushHeating cfg (repairSetpoints cfg (repairLimits cfg a)) ≡ repairSetpoints cfg (repairLimits cfg a)
+
+-- so document 01's repair, with that adjustment, is the repair that is made
+abbrev pub RepairUnchanged : Type 0
+RepairUnchanged = (cfg : Config) (a : Attrs) → accepted cfg ≡ true → repairMode cfg (pushHeating cfg (repairSetpoints cfg (repairLimits cfg a))) ≡ repaired cfg a
 
 -- the steps of repair give the formulas
 abbrev pub SettingsByFormula : Type 0

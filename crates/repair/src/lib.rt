@@ -137,6 +137,7 @@ fn repair_limits(cfg: Config, a: Attrs) -> Attrs
     pull_max_heat(cfg, pull_min_heat(cfg, c))
 }
 
+// thermostat.rs then pulls heating down where cooling's limits leave no room. On an accepted configuration they always do (C-24).
 fn repair_setpoints(cfg: Config, a: Attrs) -> Attrs
     ensures { λ r. ⌜ r ≡ spec.repairSetpoints cfg a ⌝ }
 {
