@@ -7,6 +7,7 @@ pub mod Causes
 pub mod Valid
 pub mod Chain
 pub mod Repair
+pub mod RepairedSettings
 pub mod Good
 pub mod Kept
 pub mod Band

@@ -1,31 +1,27 @@
--- Repair on an accepted configuration, C-24: the settings that its steps give are the formulas'; these pass row 28 and keep the gap; on such settings no
--- step of repair changes anything, document 01's final heating adjustment included.
+-- Repair on an accepted configuration: the settings that its steps give are the formulas of C-24, pass row 28 and keep the gap.
 use mathlib.Core.Path.{_≡_, refl, sym, _∙_, ap, ap₂, subst}
-use mathlib.Core.Bool.{Bool, true, false, not, _&&_, _||_, cond}
+use mathlib.Core.Bool.{true, false, not, _&&_, cond}
 use Prim.Native.Nat.{ℕ}
 use lib.IntN.{ℤ, _+ℤ_, _-ℤ_}
 use lib.Signed.{_≤ℤ_}
-use borrow.Author.Tests.{eq-eqb}
-use Rattle.integers.specs.Linear.{linear, eqZ, sum-parts, diff-parts}
-use Rattle.integers.specs.Clamp.{clampZ, maxZ, minZ, max-parts, min-parts, clamp-low, clamp-high, clamp-within, clamp-lesser, clamp-upper}
-use Rattle.units.specs.Units.{hundredths, equal, plus, minus, widened, greater, lesser, clamped}
+use Rattle.integers.specs.Linear.{linear, sum-parts, diff-parts}
+use Rattle.integers.specs.Clamp.{clampZ, maxZ, minZ, max-parts, min-parts, clamp-low, clamp-high, clamp-within, clamp-lesser}
+use Rattle.units.specs.Units.{hundredths, plus, minus, widened, greater, clamped}
 use Rattle.units.specs.declared.Hundredths.{Hundredths}
-use Rattle.records.specs.Records.{sameSettings, updated, setHeating, setCooling, setMinHeat, setMaxHeat, setMinCool, setMaxCool}
 use Rattle.model.specs.Served.{heats, cools, auto, hasHeatLimits, hasCoolLimits}
 use Rattle.model.specs.Units.{deadBand}
 use Rattle.model.specs.Limits.{minHeatSetpoint, maxHeatSetpoint, minCoolSetpoint, maxCoolSetpoint, inHeatLimits, inCoolLimits, clampHeatSetpoint, clampCoolSetpoint}
 use Rattle.model.specs.Modes.{isSupportedSystemMode}
-use Rattle.model.specs.Repair.{clampMinHeat, clampMaxHeat, clampMinCool, clampMaxCool, pullMinHeat, pullMaxHeat, clampHeating, clampCooling, pushCooling, pushHeating, repairMode, repairLimits, repairSetpoints, repaired}
-use Rattle.model.specs.RepairedSettings.{greaterWithAuto, supportedMode, repairedLimits, repairedSettings, AdjustmentChangesNothing, RepairUnchanged, SettingsByFormula, SecondRepairChangesNothing, NoStepUndone, AdjustmentActs}
+use Rattle.model.specs.Repair.{clampMinHeat, clampMaxHeat, clampMinCool, clampMaxCool, pullMinHeat, pullMaxHeat, clampHeating, clampCooling, pushCooling, repairMode, repairLimits, repairSetpoints, repaired}
+use Rattle.model.specs.RepairedSettings.{greaterWithAuto, supportedMode, repairedLimits, repairedSettings}
 use Rattle.model.specs.Sound.{soundHeatLimits, soundCoolLimits, soundGap, soundHeating, soundCooling}
 use Rattle.model.specs.Claims.{GapKept}
-use Rattle.model.specs.Everything.{everything}
 use Rattle.records.specs.declared.Config.{Config}
 use Rattle.records.specs.declared.Settings.{Settings}
 use Rattle.records.specs.declared.Attrs.{Attrs}
 use Rattle.model.proofs.Logic.{both, implies, by-cond, cases}
-use Rattle.model.proofs.Valid.{Valid, valid}
-use Rattle.model.proofs.Chain.{Ordered, InForce, LimitTests, Placed, heating-between, cooling-between, heat-ordered, is-heat-ordered, cool-ordered, is-cool-ordered, gaps, is-gaps, in-force, heat-clamped, cool-clamped}
+use Rattle.model.proofs.Valid.{Valid}
+use Rattle.model.proofs.Chain.{Ordered, InForce, LimitTests, Placed, is-heat-ordered, is-cool-ordered, is-gaps, in-force, heat-clamped, cool-clamped}
 
 -- a minimum clamped to ABS, and a maximum to minimum..ABS_MAX
 paired : (mi ma lo hi : ℤ) → lo ≤ℤ hi → Ordered lo (clampZ mi lo hi) (clampZ ma (clampZ mi lo hi) hi) hi
@@ -249,7 +245,7 @@ module _ (cfg : Config) (v : Valid cfg) where
       let p = k .placed in
       record { placed = record { limits = record { heat = p .limits .heat; cool = p .limits .cool; gap = p .limits .gap }; heating = p .heating; cooling = p .cooling }; gap = k .gap }
 
-  points-settled : (a : Attrs) → Settled (repairSetpoints cfg (repairLimits cfg a) .settings)
+  pub points-settled : (a : Attrs) → Settled (repairSetpoints cfg (repairLimits cfg a) .settings)
   points-settled a = subst Settled (sym (points-repaired a)) (pushed-settled (repairedLimits cfg (a .settings)) (limits-tested (a .settings)))
 
   off-supported : isSupportedSystemMode cfg 0 ≡ true
@@ -267,136 +263,3 @@ module _ (cfg : Config) (v : Valid cfg) where
   repair-mode a =
       subst (λ (s : Settings). isSupportedSystemMode cfg (s .mode) ≡ true) (sym (by-formula a))
       (by-cond (λ (m : ℕ). isSupportedSystemMode cfg m ≡ true) (isSupportedSystemMode cfg (a .settings .mode)) (a .settings .mode) 0 (λ e. e) (λ e. off-supported))
-
-same-settings : (s : Settings) → sameSettings s s ≡ true
-unfolding sameSettings equal
-same-settings s =
-    let same : (z : ℤ) → eqZ z z ≡ true = λ z. omega linear in
-    simp (same (s .heating .0), same (s .cooling .0), same (s .minheat .0), same (s .maxheat .0), same (s .mincool .0), same (s .maxcool .0), eq-eqb (s .mode) (s .mode) refl)
-
-or-false : (b : Bool) → b || false ≡ b
-or-false true = refl
-or-false false = refl
-
--- a store of what is there leaves settings and dirty mark
-stored-same : (a : Attrs) → updated a (a .settings) ≡ a
-stored-same a = ap (λ (d : Bool). record { settings = a .settings; dirty = d }) (ap (λ (b : Bool). a .dirty || not b) (same-settings (a .settings)) ∙ or-false (a .dirty))
-
--- a step that stores what is there, if it stores
-idle : (a : Attrs) (t : Bool) (set : Hundredths → Attrs) (x y : Hundredths) → set y ≡ a → (t ≡ true → x ≡ y) → cond t (set x) a ≡ a
-idle a t set x y e f = by-cond (λ (b : Attrs). b ≡ a) t (set x) a (λ h. ap set (f h) ∙ e) (λ h. refl)
-
--- settled settings: no step changes anything
-module _ (cfg : Config) (v : Valid cfg) (a : Attrs) (k : Settled cfg v (a .settings)) where
-  heat-tests : hasHeatLimits cfg ≡ true → Ordered (cfg .absminheat .0) (a .settings .minheat .0) (a .settings .maxheat .0) (cfg .absmaxheat .0)
-  heat-tests = heat-ordered cfg (a .settings) (k .placed .limits .heat)
-
-  cool-tests : hasCoolLimits cfg ≡ true → Ordered (cfg .absmincool .0) (a .settings .mincool .0) (a .settings .maxcool .0) (cfg .absmaxcool .0)
-  cool-tests = cool-ordered cfg (a .settings) (k .placed .limits .cool)
-
-  min-heat-same : clampMinHeat cfg a ≡ a
-  unfolding clampMinHeat clamped widened
-  min-heat-same =
-      idle a (hasHeatLimits cfg) (setMinHeat a) _ (a .settings .minheat) (stored-same a)
-      (λ h. let o = heat-tests h in let m = o .mid in let u = o .high in ap hundredths (clamp-within _ _ _ (o .low) (omega linear)))
-
-  max-heat-same : clampMaxHeat cfg a ≡ a
-  unfolding clampMaxHeat clamped widened
-  max-heat-same =
-      idle a (hasHeatLimits cfg) (setMaxHeat a) _ (a .settings .maxheat) (stored-same a) (λ h. let o = heat-tests h in ap hundredths (clamp-within _ _ _ (o .mid) (o .high)))
-
-  min-cool-same : clampMinCool cfg a ≡ a
-  unfolding clampMinCool clamped widened
-  min-cool-same =
-      idle a (hasCoolLimits cfg) (setMinCool a) _ (a .settings .mincool) (stored-same a)
-      (λ h. let o = cool-tests h in let m = o .mid in let u = o .high in ap hundredths (clamp-within _ _ _ (o .low) (omega linear)))
-
-  max-cool-same : clampMaxCool cfg a ≡ a
-  unfolding clampMaxCool clamped widened
-  max-cool-same =
-      idle a (hasCoolLimits cfg) (setMaxCool a) _ (a .settings .maxcool) (stored-same a) (λ h. let o = cool-tests h in ap hundredths (clamp-within _ _ _ (o .mid) (o .high)))
-
-  pull-min-same : pullMinHeat cfg a ≡ a
-  unfolding pullMinHeat clamped minus
-  pull-min-same =
-      let s = a .settings in
-      idle a (auto cfg && hasHeatLimits cfg) (setMinHeat a) _ (s .minheat) (stored-same a)
-      (λ t. let b = both (auto cfg) (hasHeatLimits cfg) t in
-      let g = gaps cfg s (k .placed .limits .gap) (b .0) (b .1) .0 in
-      ap hundredths (clamp-upper _ _ _ (heat-tests (b .1) .low) (omega (linear, sum-parts (s .minheat .0) (deadBand cfg .0), diff-parts (s .mincool .0) (deadBand cfg .0)))))
-
-  pull-max-same : pullMaxHeat cfg a ≡ a
-  unfolding pullMaxHeat clamped minus
-  pull-max-same =
-      let s = a .settings in
-      idle a (auto cfg && hasHeatLimits cfg) (setMaxHeat a) _ (s .maxheat) (stored-same a)
-      (λ t. let b = both (auto cfg) (hasHeatLimits cfg) t in
-      let g = gaps cfg s (k .placed .limits .gap) (b .0) (b .1) .1 in
-      ap hundredths (clamp-upper _ _ _ (heat-tests (b .1) .mid) (omega (linear, sum-parts (s .maxheat .0) (deadBand cfg .0), diff-parts (s .maxcool .0) (deadBand cfg .0)))))
-
-  clamp-heating-same : clampHeating cfg a ≡ a
-  unfolding clampHeating clampHeatSetpoint clamped widened
-  clamp-heating-same =
-      idle a (heats cfg) (setHeating a) _ (a .settings .heating) (stored-same a) (λ h. let b = heating-between cfg (a .settings) (k .placed) h in ap hundredths (clamp-within _ _ _ (b .0) (b .1)))
-
-  clamp-cooling-same : clampCooling cfg a ≡ a
-  unfolding clampCooling clampCoolSetpoint clamped widened
-  clamp-cooling-same =
-      idle a (cools cfg) (setCooling a) _ (a .settings .cooling) (stored-same a) (λ c. let b = cooling-between cfg (a .settings) (k .placed) c in ap hundredths (clamp-within _ _ _ (b .0) (b .1)))
-
-  push-cooling-same : pushCooling cfg a ≡ a
-  unfolding pushCooling clampCoolSetpoint clamped greater widened plus
-  push-cooling-same =
-      let c = a .settings .cooling .0 in
-      let w = a .settings .heating .0 +ℤ deadBand cfg .0 in
-      idle a (auto cfg) (setCooling a) _ (a .settings .cooling) (stored-same a)
-      (λ t. let b = cooling-between cfg (a .settings) (k .placed) (v .auto-cools t) in
-      let g = k .gap t in
-      let e : maxZ c w ≡ c = omega (linear, max-parts c w) in
-      ap hundredths (ap (λ (z : ℤ). clampZ z (minCoolSetpoint cfg (a .settings) .0) (maxCoolSetpoint cfg (a .settings) .0)) e ∙ clamp-within _ _ _ (b .0) (b .1)))
-
-  -- document 01's final adjustment
-  push-heating-same : pushHeating cfg a ≡ a
-  unfolding pushHeating clampHeatSetpoint clamped lesser widened minus
-  push-heating-same =
-      let h = a .settings .heating .0 in
-      let c = a .settings .cooling .0 in
-      let d = deadBand cfg .0 in
-      idle a (auto cfg) (setHeating a) _ (a .settings .heating) (stored-same a)
-      (λ t. let b = heating-between cfg (a .settings) (k .placed) (v .auto-heats t) in
-      let g = k .gap t in
-      let e : minZ h (c -ℤ d) ≡ h = omega (linear, min-parts h (c -ℤ d), diff-parts c d, sum-parts h d) in
-      ap hundredths (ap (λ (z : ℤ). clampZ z (minHeatSetpoint cfg (a .settings) .0) (maxHeatSetpoint cfg (a .settings) .0)) e ∙ clamp-within _ _ _ (b .0) (b .1)))
-
-  mode-same : isSupportedSystemMode cfg (a .settings .mode) ≡ true → repairMode cfg a ≡ a
-  unfolding repairMode
-  mode-same m = rw m refl
-
-  repair-same : isSupportedSystemMode cfg (a .settings .mode) ≡ true → repaired cfg a ≡ a
-  unfolding repaired repairSetpoints repairLimits
-  repair-same m =
-      simp (min-heat-same, max-heat-same, min-cool-same, max-cool-same, pull-min-same, pull-max-same, clamp-heating-same, clamp-cooling-same, push-cooling-same, mode-same m)
-
-pub adjustment-changes-nothing : AdjustmentChangesNothing
-adjustment-changes-nothing cfg a ok =
-    let v = valid cfg ok in push-heating-same cfg v (repairSetpoints cfg (repairLimits cfg a)) (points-settled cfg v a)
-
-pub repair-unchanged : RepairUnchanged
-unfolding repaired
-repair-unchanged cfg a ok = ap (repairMode cfg) (adjustment-changes-nothing cfg a ok)
-
-pub settings-by-formula : SettingsByFormula
-settings-by-formula cfg a ok = by-formula cfg (valid cfg ok) a
-
-pub second-repair-changes-nothing : SecondRepairChangesNothing
-second-repair-changes-nothing cfg a dirty ok =
-    let v = valid cfg ok in repair-same cfg v (record { settings = repaired cfg a .settings; dirty = dirty }) (repair-settled cfg v a) (repair-mode cfg v a)
-
-pub no-step-undone : NoStepUndone
-no-step-undone cfg a ok e =
-    let v = valid cfg ok in
-    repair-same cfg v a (subst (Settled cfg v) e (repair-settled cfg v a)) (subst (λ (s : Settings). isSupportedSystemMode cfg (s .mode) ≡ true) e (repair-mode cfg v a))
-
-pub adjustment-acts : AdjustmentActs
-unfolding everything
-adjustment-acts = (refl, refl, refl)
