@@ -5,6 +5,7 @@ use Prim.Native.Nat.{ℕ}
 use Rattle.model.specs.Step.{opened}
 use Rattle.model.specs.Plant.{at, plant, plantSettings, noReadings}
 use Rattle.model.specs.Claims.{Entry, limitsEntry, number, run, AllAccepted, Adjacent, heating-cooling, heating-only, cooling-only, LimitsThenWrites, ModeWritten, AgreeAfter}
+use Rattle.model.specs.RepairedSettings.{AdjustmentActs}
 use Rattle.model.specs.Examples.{withoutReadings, before, between, later, bothWrites, withWrites, otherSettings, heatingPlant, refusedLater, heatingLater, coolingPlant, coolingLater, BothSides, HeatingOnly, CoolingOnly, CallBetweenDiffers, LimitWritesDiffer, DirtyThoughUndone, EqualWriteKeepsGap, MessageWithoutOrder, ArmedSecondOnce}
 use Rattle.model.specs.Everything.{everything}
 use Rattle.records.specs.declared.Config.{Config}
@@ -105,3 +106,7 @@ message-without-order = (refl, refl)
 pub armed-second-once : ArmedSecondOnce
 unfolding everything
 armed-second-once = (refl, refl, refl)
+
+pub adjustment-acts : AdjustmentActs
+unfolding everything
+adjustment-acts = (refl, refl, refl)

@@ -2,19 +2,20 @@
 use mathlib.Core.Path.{_≡_, refl, _∙_, ap, subst}
 use mathlib.Core.Bool.{Bool, true, false, not, _&&_, _||_, cond}
 use lib.IntN.{ℤ, _+ℤ_, _-ℤ_}
+use lib.Signed.{_≤ℤ_}
 use borrow.Author.Tests.{eq-eqb}
 use Rattle.integers.specs.Linear.{linear, eqZ, sum-parts, diff-parts}
-use Rattle.integers.specs.Clamp.{clampZ, maxZ, minZ, max-parts, min-parts, clamp-within, clamp-upper}
+use Rattle.integers.specs.Clamp.{clampZ, max-parts, min-parts, clamp-within, clamp-upper}
 use Rattle.units.specs.Units.{hundredths, equal, plus, minus, widened, greater, lesser, clamped}
 use Rattle.units.specs.declared.Hundredths.{Hundredths}
+use Rattle.units.specs.declared.Wide.{Wide}
 use Rattle.records.specs.Records.{sameSettings, updated, setHeating, setCooling, setMinHeat, setMaxHeat, setMinCool, setMaxCool}
 use Rattle.model.specs.Served.{heats, cools, auto, hasHeatLimits, hasCoolLimits}
 use Rattle.model.specs.Units.{deadBand}
-use Rattle.model.specs.Limits.{minHeatSetpoint, maxHeatSetpoint, minCoolSetpoint, maxCoolSetpoint, clampHeatSetpoint, clampCoolSetpoint}
+use Rattle.model.specs.Limits.{clampHeatSetpoint, clampCoolSetpoint}
 use Rattle.model.specs.Modes.{isSupportedSystemMode}
 use Rattle.model.specs.Repair.{clampMinHeat, clampMaxHeat, clampMinCool, clampMaxCool, pullMinHeat, pullMaxHeat, clampHeating, clampCooling, pushCooling, pushHeating, repairMode, repairLimits, repairSetpoints, repaired}
-use Rattle.model.specs.RepairedSettings.{AdjustmentChangesNothing, RepairUnchanged, SettingsByFormula, SecondRepairChangesNothing, NoStepUndone, AdjustmentActs}
-use Rattle.model.specs.Everything.{everything}
+use Rattle.model.specs.RepairedSettings.{AdjustmentChangesNothing, RepairUnchanged, SettingsByFormula, SecondRepairChangesNothing, NoStepUndone}
 use Rattle.records.specs.declared.Config.{Config}
 use Rattle.records.specs.declared.Settings.{Settings}
 use Rattle.records.specs.declared.Attrs.{Attrs}
@@ -37,9 +38,21 @@ or-false false = refl
 stored-same : (a : Attrs) → updated a (a .settings) ≡ a
 stored-same a = ap (λ (d : Bool). record { settings = a .settings; dirty = d }) (ap (λ (b : Bool). a .dirty || not b) (same-settings (a .settings)) ∙ or-false (a .dirty))
 
--- a step that stores what is there, if it stores
-idle : (a : Attrs) (t : Bool) (set : Hundredths → Attrs) (x y : Hundredths) → set y ≡ a → (t ≡ true → x ≡ y) → cond t (set x) a ≡ a
-idle a t set x y e f = by-cond (λ (b : Attrs). b ≡ a) t (set x) a (λ h. ap set (f h) ∙ e) (λ h. refl)
+-- a step that asks for the number that is there, within its limits
+clamp-same : (a : Attrs) (t : Bool) (set : Hundredths → Attrs) (w : Wide) (y lo hi : Hundredths) → set y ≡ a → (t ≡ true → (w .0 ≡ y .0) × (lo .0 ≤ℤ y .0) × (y .0 ≤ℤ hi .0)) → cond t (set (clamped w lo hi)) a ≡ a
+unfolding clamped
+clamp-same a t set w y lo hi e f =
+    by-cond (λ (b : Attrs). b ≡ a) t (set (clamped w lo hi)) a
+    (λ h. let k = f h in
+    ap set (ap hundredths (ap (λ (z : ℤ). clampZ z (lo .0) (hi .0)) (k .0) ∙ clamp-within (y .0) (lo .0) (hi .0) (k .1) (k .2))) ∙ e) (λ h. refl)
+
+-- a step that pulls a limit below another, where it is so already
+pull-same : (a : Attrs) (t : Bool) (set : Hundredths → Attrs) (y lo c d : Hundredths) → set y ≡ a → (t ≡ true → (lo .0 ≤ℤ y .0) × ((y .0 +ℤ d .0) ≤ℤ c .0)) → cond t (set (clamped (minus c d) lo y)) a ≡ a
+unfolding clamped minus
+pull-same a t set y lo c d e f =
+    by-cond (λ (b : Attrs). b ≡ a) t (set (clamped (minus c d) lo y)) a
+    (λ h. let g = f h .1 in
+    ap set (ap hundredths (clamp-upper (c .0 -ℤ d .0) (lo .0) (y .0) (f h .0) (omega (linear, sum-parts (y .0) (d .0), diff-parts (c .0) (d .0))))) ∙ e) (λ h. refl)
 
 -- settled settings: no step changes anything
 module _ (cfg : Config) (v : Valid cfg) (a : Attrs) (k : Settled cfg v (a .settings)) where
@@ -50,78 +63,60 @@ module _ (cfg : Config) (v : Valid cfg) (a : Attrs) (k : Settled cfg v (a .setti
   cool-tests = cool-ordered cfg (a .settings) (k .placed .limits .cool)
 
   min-heat-same : clampMinHeat cfg a ≡ a
-  unfolding clampMinHeat clamped widened
-  min-heat-same =
-      idle a (hasHeatLimits cfg) (setMinHeat a) _ (a .settings .minheat) (stored-same a)
-      (λ h. let o = heat-tests h in let m = o .mid in let u = o .high in ap hundredths (clamp-within _ _ _ (o .low) (omega linear)))
+  unfolding clampMinHeat widened
+  min-heat-same = clamp-same a (hasHeatLimits cfg) (setMinHeat a) _ (a .settings .minheat) _ _ (stored-same a) (λ h. let o = heat-tests h in let m = o .mid in let u = o .high in (refl, o .low, omega linear))
 
   max-heat-same : clampMaxHeat cfg a ≡ a
-  unfolding clampMaxHeat clamped widened
-  max-heat-same =
-      idle a (hasHeatLimits cfg) (setMaxHeat a) _ (a .settings .maxheat) (stored-same a) (λ h. let o = heat-tests h in ap hundredths (clamp-within _ _ _ (o .mid) (o .high)))
+  unfolding clampMaxHeat widened
+  max-heat-same = clamp-same a (hasHeatLimits cfg) (setMaxHeat a) _ (a .settings .maxheat) _ _ (stored-same a) (λ h. let o = heat-tests h in (refl, o .mid, o .high))
 
   min-cool-same : clampMinCool cfg a ≡ a
-  unfolding clampMinCool clamped widened
-  min-cool-same =
-      idle a (hasCoolLimits cfg) (setMinCool a) _ (a .settings .mincool) (stored-same a)
-      (λ h. let o = cool-tests h in let m = o .mid in let u = o .high in ap hundredths (clamp-within _ _ _ (o .low) (omega linear)))
+  unfolding clampMinCool widened
+  min-cool-same = clamp-same a (hasCoolLimits cfg) (setMinCool a) _ (a .settings .mincool) _ _ (stored-same a) (λ h. let o = cool-tests h in let m = o .mid in let u = o .high in (refl, o .low, omega linear))
 
   max-cool-same : clampMaxCool cfg a ≡ a
-  unfolding clampMaxCool clamped widened
-  max-cool-same =
-      idle a (hasCoolLimits cfg) (setMaxCool a) _ (a .settings .maxcool) (stored-same a) (λ h. let o = cool-tests h in ap hundredths (clamp-within _ _ _ (o .mid) (o .high)))
+  unfolding clampMaxCool widened
+  max-cool-same = clamp-same a (hasCoolLimits cfg) (setMaxCool a) _ (a .settings .maxcool) _ _ (stored-same a) (λ h. let o = cool-tests h in (refl, o .mid, o .high))
 
   pull-min-same : pullMinHeat cfg a ≡ a
-  unfolding pullMinHeat clamped minus
+  unfolding pullMinHeat
   pull-min-same =
-      let s = a .settings in
-      idle a (auto cfg && hasHeatLimits cfg) (setMinHeat a) _ (s .minheat) (stored-same a)
-      (λ t. let b = both (auto cfg) (hasHeatLimits cfg) t in
-      let g = gaps cfg s (k .placed .limits .gap) (b .0) (b .1) .0 in
-      ap hundredths (clamp-upper _ _ _ (heat-tests (b .1) .low) (omega (linear, sum-parts (s .minheat .0) (deadBand cfg .0), diff-parts (s .mincool .0) (deadBand cfg .0)))))
+      pull-same a (auto cfg && hasHeatLimits cfg) (setMinHeat a) (a .settings .minheat) _ _ _ (stored-same a)
+      (λ t. let b = both (auto cfg) (hasHeatLimits cfg) t in (heat-tests (b .1) .low, gaps cfg (a .settings) (k .placed .limits .gap) (b .0) (b .1) .0))
 
   pull-max-same : pullMaxHeat cfg a ≡ a
-  unfolding pullMaxHeat clamped minus
+  unfolding pullMaxHeat
   pull-max-same =
-      let s = a .settings in
-      idle a (auto cfg && hasHeatLimits cfg) (setMaxHeat a) _ (s .maxheat) (stored-same a)
-      (λ t. let b = both (auto cfg) (hasHeatLimits cfg) t in
-      let g = gaps cfg s (k .placed .limits .gap) (b .0) (b .1) .1 in
-      ap hundredths (clamp-upper _ _ _ (heat-tests (b .1) .mid) (omega (linear, sum-parts (s .maxheat .0) (deadBand cfg .0), diff-parts (s .maxcool .0) (deadBand cfg .0)))))
+      pull-same a (auto cfg && hasHeatLimits cfg) (setMaxHeat a) (a .settings .maxheat) _ _ _ (stored-same a)
+      (λ t. let b = both (auto cfg) (hasHeatLimits cfg) t in (heat-tests (b .1) .mid, gaps cfg (a .settings) (k .placed .limits .gap) (b .0) (b .1) .1))
 
   clamp-heating-same : clampHeating cfg a ≡ a
-  unfolding clampHeating clampHeatSetpoint clamped widened
-  clamp-heating-same =
-      idle a (heats cfg) (setHeating a) _ (a .settings .heating) (stored-same a) (λ h. let b = heating-between cfg (a .settings) (k .placed) h in ap hundredths (clamp-within _ _ _ (b .0) (b .1)))
+  unfolding clampHeating clampHeatSetpoint widened
+  clamp-heating-same = clamp-same a (heats cfg) (setHeating a) _ (a .settings .heating) _ _ (stored-same a) (λ h. let b = heating-between cfg (a .settings) (k .placed) h in (refl, b .0, b .1))
 
   clamp-cooling-same : clampCooling cfg a ≡ a
-  unfolding clampCooling clampCoolSetpoint clamped widened
-  clamp-cooling-same =
-      idle a (cools cfg) (setCooling a) _ (a .settings .cooling) (stored-same a) (λ c. let b = cooling-between cfg (a .settings) (k .placed) c in ap hundredths (clamp-within _ _ _ (b .0) (b .1)))
+  unfolding clampCooling clampCoolSetpoint widened
+  clamp-cooling-same = clamp-same a (cools cfg) (setCooling a) _ (a .settings .cooling) _ _ (stored-same a) (λ c. let b = cooling-between cfg (a .settings) (k .placed) c in (refl, b .0, b .1))
 
   push-cooling-same : pushCooling cfg a ≡ a
-  unfolding pushCooling clampCoolSetpoint clamped greater widened plus
+  unfolding pushCooling clampCoolSetpoint greater widened plus
   push-cooling-same =
-      let c = a .settings .cooling .0 in
-      let w = a .settings .heating .0 +ℤ deadBand cfg .0 in
-      idle a (auto cfg) (setCooling a) _ (a .settings .cooling) (stored-same a)
+      clamp-same a (auto cfg) (setCooling a) _ (a .settings .cooling) _ _ (stored-same a)
       (λ t. let b = cooling-between cfg (a .settings) (k .placed) (v .auto-cools t) in
       let g = k .gap t in
-      let e : maxZ c w ≡ c = omega (linear, max-parts c w) in
-      ap hundredths (ap (λ (z : ℤ). clampZ z (minCoolSetpoint cfg (a .settings) .0) (maxCoolSetpoint cfg (a .settings) .0)) e ∙ clamp-within _ _ _ (b .0) (b .1)))
+      (omega (linear, max-parts (a .settings .cooling .0) (a .settings .heating .0 +ℤ deadBand cfg .0)), b .0, b .1))
 
   -- document 01's final adjustment
   push-heating-same : pushHeating cfg a ≡ a
-  unfolding pushHeating clampHeatSetpoint clamped lesser widened minus
+  unfolding pushHeating clampHeatSetpoint lesser widened minus
   push-heating-same =
       let h = a .settings .heating .0 in
       let c = a .settings .cooling .0 in
       let d = deadBand cfg .0 in
-      idle a (auto cfg) (setHeating a) _ (a .settings .heating) (stored-same a)
+      clamp-same a (auto cfg) (setHeating a) _ (a .settings .heating) _ _ (stored-same a)
       (λ t. let b = heating-between cfg (a .settings) (k .placed) (v .auto-heats t) in
       let g = k .gap t in
-      let e : minZ h (c -ℤ d) ≡ h = omega (linear, min-parts h (c -ℤ d), diff-parts c d, sum-parts h d) in
-      ap hundredths (ap (λ (z : ℤ). clampZ z (minHeatSetpoint cfg (a .settings) .0) (maxHeatSetpoint cfg (a .settings) .0)) e ∙ clamp-within _ _ _ (b .0) (b .1)))
+      (omega (linear, min-parts h (c -ℤ d), diff-parts c d, sum-parts h d), b .0, b .1))
 
   mode-same : isSupportedSystemMode cfg (a .settings .mode) ≡ true → repairMode cfg a ≡ a
   unfolding repairMode
@@ -151,7 +146,3 @@ pub no-step-undone : NoStepUndone
 no-step-undone cfg a ok e =
     let v = valid cfg ok in
     repair-same cfg v a (subst (Settled cfg v) e (repair-settled cfg v a)) (subst (λ (s : Settings). isSupportedSystemMode cfg (s .mode) ≡ true) e (repair-mode cfg v a))
-
-pub adjustment-acts : AdjustmentActs
-unfolding everything
-adjustment-acts = (refl, refl, refl)
