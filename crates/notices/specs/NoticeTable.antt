@@ -9,7 +9,11 @@ use Rattle.records.specs.declared.NoticeRow.{NoticeRow}
 
 -- the pending bit of a code: the relays' two codes share one, the limits' bits follow their codes, the setpoints' run against theirs
 unfoldable pub bitOf : ℕ → ℕ
-bitOf c = cond (ltb 0x1C c) 8 (cond (ltb 0x18 c) 3 (cond (ltb 0x12 c) (c + 4 - 0x15) (cond (ltb 0x00 c) (0x12 + 1 - c) 0)))
+bitOf c =
+    cond (ltb 0x1C c) 8
+    (cond (ltb 0x18 c) 3
+    (cond (ltb 0x12 c) (c + 4 - 0x15)
+    (cond (ltb 0x00 c) (0x12 + 1 - c) 0)))
 
 abbrev pub rowOf : ℕ → NoticeRow
 rowOf c = noticeRow (bitOf c) c
