@@ -3,7 +3,8 @@
 
     python3 oracle/compare.py [CALLS [SEED [CONSOLE [ORACLE]]]]    1,000,000 calls, seed 1; about two minutes
     python3 oracle/compare.py --repair [CALLS [SEED ..]]           openings and limits messages alone, at repair's edges
-    python3 oracle/compare.py --replay CALLS OUTDIR                lines in OUTDIR/stdin, the Rust's answers in OUTDIR/stdout
+    python3 oracle/compare.py --replay CALLS OUTDIR                lines in OUTDIR/stdin, the Rust's answers in OUTDIR/stdout,
+                                                                   C-20's case marked and with cooling's amount
 
 The paths are target/bin/console and oracle/target/release/oracle if none are given.
 
@@ -11,9 +12,10 @@ It draws configurations (their numbers from the oracle's table), records, readin
 not, and goes on until CALLS of them lie in document 01's domain. In turn with these come lists that are run through completely
 (SHORT LISTS below), as far as CALLS reaches. The same SEED gives the same lines.
 
-A difference is listed only where a rule of `Judge` says so: for the paper's rows 20, 24, 26, 27 and 28. This program works out
-for itself where they are due, and there the console must give exactly that number and the record as it was. Any other difference,
-and a row that is due and does not come, is unlisted: the first of these are cut down and printed, and the exit code is 1.
+A difference is listed only where a rule of `Judge` says so: for the paper's rows 20, 24, 26, 27 and 28, and for C-20. This program
+works out for itself where they are due. At a row the console must give exactly that number and the record as it was; where both
+setpoints moved, cooling's amount and all else as the Rust. Any other difference, and a row or amount that is due and does not come,
+is unlisted: the first of these are cut down and printed, and the exit code is 1.
 Python's standard library is all it needs.
 """
 
@@ -177,11 +179,40 @@ def why_unsound(config, state):
     return config.unsound(list(map(int, fields[:7])), fields[10])
 
 
+# --- C-20
+
+ATTRIBUTES = 1 << 9  # the pending bit with which a sweep attributes a local change
+AMOUNT_NOTICE = "31"
+
+
+def amount_of(text):
+    return re.search(r" amt=(\S+)", text)[1]
+
+
+def with_amount(text, amount):
+    return re.sub(r" amt=\S+", f" amt={amount}", text)
+
+
+def moved_both(config, words, state):
+    """Heating's and cooling's saturated difference, if this call on this record is a sweep that finds both moved; else nothing."""
+    if words[0] != "sweep" or not (config.heats and config.cools):
+        return None
+    field = dict(re.findall(r"(\w+)=(\S+)", state))
+    if not int(field["pend"]) & ATTRIBUTES or field["att"] == "-":
+        return None
+    claimed = map(int, field["att"].split("/"))
+    moved = [int(field[name]) - old for name, old in zip(("h", "c"), claimed)]
+    return [str(max(-32768, min(32767, difference))) for difference in moved] if all(moved) else None
+
+
 # --- The rules
 
 BOTH, CONSOLE_ALONE, UNREADABLE = range(3)  # how a line is meant
 
+BOTH_MOVED, BOTH_HAD_MOVED = "both moved", "both had moved"
 LISTED = {
+    BOTH_MOVED: "DIFFERENCES 8: C-20, both setpoints moved",
+    BOTH_HAD_MOVED: "DIFFERENCES 8: C-20's amount still stands",
     20: "DIFFERENCES 1: row 20, the Rust's subtraction leaves 16 bits",
     24: "DIFFERENCES 3: row 24",
     26: "DIFFERENCES 2: row 26, the Rust leaves the record as it was",
@@ -198,7 +229,7 @@ class Counts:
 
     def domain(self):
         """Calls in document 01's domain: all but those answered 24, 27 or 28 and those whose values the Rust's types lack."""
-        return self.compared + sum(sum(self.listed[LISTED[row]].values()) for row in (20, 26))
+        return self.compared + sum(sum(self.listed[LISTED[row]].values()) for row in (20, 26, BOTH_MOVED, BOTH_HAD_MOVED))
 
 
 class Judge:
@@ -212,7 +243,8 @@ class Judge:
     def lend(self, state, held):
         self.state = state
         self.held = held  # whether the Rust's types hold the record
-        self.level = True  # whether the Rust has the console's record
+        self.level = True  # whether the Rust has the console's record, but for the amount
+        self.rusts = amount_of(state)  # the amount that the Rust has
         self.lost = False  # whether an unlisted difference came up since
 
     def step(self, line, how, at, ours, theirs):
@@ -249,7 +281,7 @@ class Judge:
             return f"row {row} is due, and the blank record"
         if row == 20 and self.held and theirs.startswith("? panic") and self.config.gap_leaves_16_bits():
             self.level = False
-            return self.list(20, theirs)
+            return self.list(20, outcome(theirs))
         if not self.held:
             return self.leave_out("opening", theirs)
         return self.equal(ours, theirs)
@@ -262,10 +294,10 @@ class Judge:
                 return f"row {row} is due, and the record as it was"
             if row == 26 and (not self.held or int(words[1]) not in MODES):
                 return self.leave_out("record" if not self.held else "oobmode", theirs)
-            if row == 26 and theirs != f"0 {before} {NOTHING}":
+            if row == 26 and theirs != f"0 {with_amount(before, self.rusts)} {NOTHING}":
                 return "row 26 is due, and the Rust does not just leave the record as it was"
             self.level &= row == 26 or how == CONSOLE_ALONE
-            return self.list(row, theirs, reason)
+            return self.list(row, outcome(theirs), reason)
         if not self.held:
             return self.leave_out("record", theirs)
         if not self.level:
@@ -275,22 +307,43 @@ class Judge:
             if ours != f"{lacking[1]} {before} {NOTHING}":
                 return f"row {lacking[1]} is due, and the record as it was"
             return self.leave_out(words[0], theirs)
+        return self.attributed(words, before, ours, theirs)
+
+    def attributed(self, words, before, ours, theirs):
+        """Equal answers but for the amount of C-20, from the sweep that records it until another is recorded."""
+        if theirs.startswith("?"):
+            return self.equal(ours, theirs)
+        had, self.rusts = self.rusts, amount_of(theirs)
+        if moved := moved_both(self.config, words, before):
+            heating, cooling = moved
+            if self.rusts != heating:
+                return "both setpoints moved, and the Rust does not record heating's amount"
+            return self.amount(BOTH_MOVED, cooling, ours, theirs)
+        noticed = ANSWER.fullmatch(theirs)[4].split(",")
+        if ours != theirs and had == self.rusts != amount_of(before) and AMOUNT_NOTICE not in noticed:
+            return self.amount(BOTH_HAD_MOVED, amount_of(before), ours, theirs)
         return self.equal(ours, theirs)
+
+    def amount(self, row, amount, ours, theirs):
+        self.lost = ours != with_amount(theirs, amount)
+        if self.lost:
+            return "cooling's amount is due, and all else as the Rust" if row == BOTH_MOVED else "the answers differ"
+        self.list(row, "the same amount" if self.rusts == amount else "heating's amount")
 
     def equal(self, ours, theirs):
         self.counts.compared += 1
         self.lost = ours != theirs
         return "the answers differ" if self.lost else None
 
-    def list(self, row, theirs, reason=""):
-        self.counts.listed[LISTED[row] + reason][did(theirs)] += 1
+    def list(self, row, rust, reason=""):
+        self.counts.listed[LISTED[row] + reason][rust] += 1
 
     def leave_out(self, where, theirs):
         self.counts.left_out["? type: " + where] += 1
         return None if theirs == "? type" else "a value is held that the Rust's types lack"
 
 
-def did(theirs):
+def outcome(theirs):
     """What the Rust did, in a word or two."""
     if theirs is None:
         return "not asked"
@@ -962,7 +1015,7 @@ def compare(arguments):
         for items in in_batches(scripts()):
             for found in run(pair, items, counts):
                 unlisted += 1
-                kinds.setdefault((found.why, found.lines[-1].split(" ")[0], did(found.ours), did(found.theirs)), found)
+                kinds.setdefault((found.why, found.lines[-1].split(" ")[0], outcome(found.ours), outcome(found.theirs)), found)
             if counts.domain() >= arguments.calls or unlisted >= 1000:
                 break
         smallest = [cut_down(pair, found, list(map(str, table[0]))) for found in itertools.islice(kinds.values(), 8)]
@@ -1060,6 +1113,36 @@ def shown_anew(config, part, seen):
     return keep
 
 
+def where_both_moved(lines, answers):
+    """Each line with its answer and, where it is a sweep that finds both setpoints moved, cooling's amount."""
+    config, state = None, BLANK
+    for line, answer in zip(lines, answers):
+        words = line.split(" ")
+        heating, cooling = moved_both(config, words, state) or (None, None)
+        if heating and heating != amount_of(answer):
+            sys.exit("both setpoints moved, and the Rust does not record heating's amount: " + answer)
+        yield line, answer, cooling
+        if words[0] == "config":
+            config = Config.read(words)
+        else:
+            state = state_of(words)[0] if words[0] == "record" else ANSWER.fullmatch(answer)[2]
+
+
+def marked(lines, answers):
+    """The lines, with C-20's case named before its call and the record lent anew behind it, so that all later answers are the Rust's."""
+    for line, answer, amount in where_both_moved(lines, answers):
+        if amount:
+            yield f"# C-20, both setpoints moved: amt={amount}, the Rust amt={amount_of(answer)}"
+        yield line
+        if amount:
+            yield record_of(with_amount(ANSWER.fullmatch(answer)[2], amount))
+
+
+def answers_of(program, path):
+    with open(path, "rb") as stdin:
+        return subprocess.run([program], stdin=stdin, stdout=subprocess.PIPE, check=True).stdout.decode().splitlines()
+
+
 def replay(arguments):
     calls, folder = int(arguments.replay[0]), pathlib.Path(arguments.replay[1])
     table = read_table(arguments.oracle)
@@ -1077,19 +1160,23 @@ def replay(arguments):
             if len(told) - told.count("ok") >= calls:
                 break
     folder.mkdir(parents=True, exist_ok=True)
-    (folder / "stdin").write_text("".join(line + "\n" for line in kept))
-    with open(folder / "stdin", "rb") as stdin, open(folder / "stdout", "wb") as stdout:
-        subprocess.run([arguments.oracle], stdin=stdin, stdout=stdout, check=True)
-    answers = (folder / "stdout").read_text().splitlines()
-    if answers != told:
+    stored = list(marked(kept, told))
+    (folder / "stdin").write_text("".join(line + "\n" for line in stored))
+    asked = list(filter(answered, stored))
+    cases = list(where_both_moved(asked, answers_of(arguments.oracle, folder / "stdin")))
+    due = [with_amount(answer, amount) if amount else answer for _, answer, amount in cases]
+    (folder / "stdout").write_text("".join(answer + "\n" for answer in due))
+    first, last = ([with_amount(answer, "") for answer in answers if answer != "ok"] for answers in (told, due))
+    if first != last:
         sys.exit("the Rust answers otherwise than in its first run")
-    numbers = collections.Counter(int(answer.split(" ")[0]) for answer in answers if answer != "ok")
+    numbers = collections.Counter(int(answer.split(" ")[0]) for answer in last)
     kinds = collections.Counter(line.split(" ")[0] for line in kept)
+    both = sum(bool(amount) for *_, amount in cases)
     size = sum((folder / name).stat().st_size for name in ("stdin", "stdout"))
-    print(f"{sum(numbers.values())} calls, {len(kept)} lines, {size} bytes")
+    print(f"{len(last)} calls, {both} of them with both setpoints moved, {len(asked)} lines, {size} bytes")
     print("by kind:", ", ".join(f"{name} {count}" for name, count in sorted(kinds.items())))
     print("by answer:", ", ".join(f"{name}: {count}" for name, count in sorted(numbers.items())))
-    if set(numbers) != {*range(24), 25} or set(kinds) != {"config", "record", "open", *KINDS}:
+    if set(numbers) != {*range(24), 25} or set(kinds) != {"config", "record", "open", *KINDS} or not both:
         sys.exit("some kind of call, or answer, is not in it")
     return 0
 

@@ -5,6 +5,7 @@ ghost use Rattle.records.specs.Records.{changedTo, withChange};
 ghost use Rattle.model.specs.Answers.{unchanged};
 ghost use Rattle.model.specs.Attribution.{withAttributed};
 ghost use Rattle.records.specs.declared.Attributed.the-variants.{Claimed};
+ghost use Rattle.model.specs.LocalChange.{localChange};
 ghost use Rattle.model.specs.Sweep as spec;
 ghost use Rattle.stages.specs.Stages.{staged};
 use records::Attributed;
@@ -16,11 +17,22 @@ use records::change_source;
 use stages::Stage;
 use units::Hundredths;
 
-// Heating's difference if it moved, else cooling's.
-fn local_change(h: Hundredths, c: Hundredths, oldh: Hundredths, oldc: Hundredths) -> Hundredths
-    ensures { λ r. ⌜ r ≡ spec.localChange h c oldh oldc ⌝ }
+// C-20: cooling's difference when both moved, else that of the side that moved. A side that is not served did not move.
+fn local_change(
+    cfg: Config,
+    h: Hundredths,
+    c: Hundredths,
+    oldh: Hundredths,
+    oldc: Hundredths,
+) -> Hundredths
+    ensures { λ r. ⌜ r ≡ localChange cfg h c oldh oldc ⌝ }
 {
-    if !units::same(oldh, h) {
+    let heats = features::heats(cfg);
+    let cools = features::cools(cfg);
+    let heating = !units::same(oldh, h);
+    let cooling = !units::same(oldc, c);
+    let both = (heats & cools) & (heating & cooling);
+    if heating & !both {
         return ranges::saturating_sub(h, oldh);
     }
     ranges::saturating_sub(c, oldc)
@@ -38,7 +50,7 @@ fn record_local(
 ) -> Stage
     ensures { λ q. ⌜ q ≡ staged n (spec.localRecorded cfg d r oldh oldc h c) ⌝ }
 {
-    let amount = local_change(h, c, oldh, oldc);
+    let amount = local_change(cfg, h, c, oldh, oldc);
     let change = r.change;
     let hook = d.hook;
     let a = attribution::record(change, change_source::MANUAL, amount, hook);

@@ -8,6 +8,7 @@ pub mod Valid
 pub mod Chain
 pub mod Repair
 pub mod RepairedSettings
+pub mod LocalChange
 pub mod Good
 pub mod Kept
 pub mod Band

@@ -1,10 +1,11 @@
 -- Line 3 at work: lists that meet its premises on document 01's plant, on one that only heats and on one that only cools; what its premises rule out;
--- and document 01's four traps, computed. docs/THEOREM.md describes each.
+-- document 01's four traps and C-20's case, computed. docs/THEOREM.md describes each.
 use mathlib.Core.Path.{_≡_}
 use mathlib.Core.Bool.{true, false}
 use mathlib.Core.List.{List, [], _∷_, _++_}
 use Prim.Native.Nat.{ℕ}
 use lib.IntN.{ℤ, pos, negsuc}
+use Rattle.model.specs.Answers.{Outcome}
 use Rattle.model.specs.Validation.{accepted}
 use Rattle.model.specs.Step.{opened, step}
 use Rattle.model.specs.Plant.{at, plant, plantSettings, noReadings}
@@ -15,6 +16,9 @@ use Rattle.records.specs.declared.Controller.{Controller}
 use Rattle.records.specs.declared.Readings.{Readings}
 use Rattle.records.specs.declared.Temperature.the-variants.{NoReading, Reading}
 use Rattle.records.specs.declared.Second.the-variants.{NoSecond, At}
+use Rattle.records.specs.declared.Amount.the-variants.{Moved}
+use Rattle.records.specs.declared.Attributed.the-variants.{Claimed}
+use Rattle.records.specs.declared.Event.the-variants.{SetpointChange}
 use Rattle.records.specs.declared.Order.the-variants.{NoOrder}
 use Rattle.records.specs.declared.OutOfBandMessage.the-variants.{LocalTemperature, OccupiedHeatingSetpoint, OccupiedCoolingSetpoint, SetpointLimits}
 use Rattle.records.specs.declared.Call.{Call}
@@ -166,3 +170,22 @@ raised mode = step plant first (nodeAt 7) (RaiseLowerSetpoint mode (record { 0 =
 
 abbrev pub ArmedSecondOnce : Type 0
 ArmedSecondOnce = (raised 0 .change .timestamp ≡ 7) × (raised 2 .change .timestamp ≡ 0) × (raised 2 .change .armed ≡ NoSecond)
+
+-- C-20. A panel turns both setpoints, or one, from outside between two sweeps: cooling's amount if both, its own if one; all else is document 01's
+abbrev pub heatingTurned : Entry
+heatingTurned = withoutReadings (OutOfBand (OccupiedHeatingSetpoint (at 2100)))
+
+abbrev pub coolingTurned : Entry
+coolingTurned = withoutReadings (OutOfBand (OccupiedCoolingSetpoint (at 2300)))
+
+abbrev pub sweptAfter : List Entry → Outcome
+sweptAfter turned = step plant (run plant first (withoutReadings SeedEvents ∷ turned)) (nodeAt 7) Sweep
+
+abbrev pub PanelMovedBoth : Type 0
+PanelMovedBoth =
+    let both = sweptAfter (heatingTurned ∷ coolingTurned ∷ []) in
+    (both .rec .change ≡ record { source = 0; amount = Moved (at 50); timestamp = 7; attributed = Claimed (at 2100) (at 2300); armed = NoSecond })
+    × (both .notices ≡ 0x11 ∷ 0x12 ∷ 0x30 ∷ 0x31 ∷ 0x32 ∷ [])
+    × (both .events ≡ SetpointChange 3 (at 2250) (at 2300) ∷ SetpointChange 4 (at 2000) (at 2100) ∷ [])
+    × (sweptAfter (heatingTurned ∷ []) .rec .change .amount ≡ Moved (at 100))
+    × (sweptAfter (coolingTurned ∷ []) .rec .change .amount ≡ Moved (at 50))

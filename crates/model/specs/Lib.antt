@@ -13,6 +13,7 @@ pub mod RepairedSettings
 pub mod Sound
 pub mod Writes
 pub mod Messages
+pub mod LocalChange
 pub mod Sweep
 pub mod Causes
 pub mod Step

@@ -3,7 +3,7 @@ use mathlib.Core.Bool.{Bool, true, false, not, _&&_, _||_, cond}
 use mathlib.Core.List.{List, [], _∷_, _++_}
 use Prim.Native.Nat.{ℕ, _+_}
 use lib.Dec.{eqb, ltb}
-use Rattle.units.specs.Units.{equal, saturatedDifference}
+use Rattle.units.specs.Units.{equal}
 use Rattle.units.specs.declared.Hundredths.{Hundredths}
 use Rattle.records.specs.Records.{currentSnapshot, firstSnapshot, withPending, withEvents, withChange, changedTo}
 use Rattle.model.specs.Answers.{Outcome, Stage, onlyIf, quiet, unchanged}
@@ -12,6 +12,7 @@ use Rattle.model.specs.Served.{heats, cools, listed, emits, noticed}
 use Rattle.model.specs.Modes.{runningState, runningMode}
 use Rattle.model.specs.Temperature.{significant, eventDue, reportedTemperature}
 use Rattle.model.specs.Attribution.{manual, recorded, armedClock, withAttributed, servedSetpoints, claimSetpoints}
+use Rattle.model.specs.LocalChange.{localChange}
 use Rattle.model.specs.Sound.{lastClock, unsound}
 use Rattle.model.specs.Writes.{sourceNotices}
 use Rattle.records.specs.declared.Config.{Config}
@@ -58,14 +59,10 @@ snapshotOf cfg d r =
 unfoldable pub started : Config → Readings → Controller → Controller
 started cfg d r = claimSetpoints cfg (firstSnapshot r (snapshotOf cfg d r))
 
--- heating's saturated difference if it moved, else cooling's
-abbrev pub localChange : Hundredths → Hundredths → Hundredths → Hundredths → Hundredths
-localChange h c oldh oldc = cond (changedTo oldh h) (saturatedDifference h oldh) (saturatedDifference c oldc)
-
--- a local change is Manual; then the pair is claimed, with the three notices
+-- a local change is Manual, its amount C-20's; then the pair is claimed, with the three notices
 abbrev pub localRecorded : Config → Readings → Controller → Hundredths → Hundredths → Hundredths → Hundredths → Stage
 localRecorded cfg d r oldh oldc h c = record {
-  rec = withChange r (withAttributed (recorded (r .change) manual (localChange h c oldh oldc) (d .hook)) (Claimed h c));
+  rec = withChange r (withAttributed (recorded (r .change) manual (localChange cfg h c oldh oldc) (d .hook)) (Claimed h c));
   notices = sourceNotices cfg;
 }
 

@@ -1,5 +1,6 @@
-use mathlib.Core.Path.{_∙_, sym, ap}
-use mathlib.Core.Bool.{not}
+use mathlib.Core.Path.{_∙_, sym}
+use mathlib.Core.Bool.{true, false}
+use Rattle.model.proofs.LocalChange.{by-heating-alone}
 use Rattle.local_changes.proofs.local_change.Statement.{statement}
 use Rattle.local_changes.proofs.local_change.Tie as tie
 
@@ -9,6 +10,9 @@ local-change-spec =
     (tie.spec
     (λ c κs. tt)
     (λ c κs. tt)
-    (λ c. simp (c .saturating-sub .ensures, ap not (sym (c .before .before .same .ensures)) ∙ c .before .if1 .taken))
     (λ c κs. tt)
-    (λ c. simp (c .saturating-sub2 .ensures, ap not (sym (c .before .before .same .ensures)) ∙ c .before .if1 .left)))
+    (λ c κs. tt)
+    (λ c κs. tt)
+    (λ c. c .saturating-sub .ensures ∙ sym (by-heating-alone _ _ _ _ _ true (simp (sym (c .before .before .same2 .ensures), sym (c .before .before .before .same .ensures), sym (c .before .before .before .before .cools .ensures), sym (c .before .before .before .before .before .heats .ensures)) (c .before .if1 .taken))))
+    (λ c κs. tt)
+    (λ c. c .saturating-sub2 .ensures ∙ sym (by-heating-alone _ _ _ _ _ false (simp (sym (c .before .before .same2 .ensures), sym (c .before .before .before .same .ensures), sym (c .before .before .before .before .cools .ensures), sym (c .before .before .before .before .before .heats .ensures)) (c .before .if1 .left)))))
