@@ -182,7 +182,7 @@ def why_unsound(config, state):
 # --- C-20
 
 ATTRIBUTES = 1 << 9  # the pending bit with which a sweep attributes a local change
-AMOUNT_NOTICE = "31"
+CHANGE_NOTICES = {f"{code:x}" for code in CHANGES}  # what a recorded change notices, as far as it is served
 
 
 def amount_of(text):
@@ -319,8 +319,8 @@ class Judge:
             if self.rusts != heating:
                 return "both setpoints moved, and the Rust does not record heating's amount"
             return self.amount(BOTH_MOVED, cooling, ours, theirs)
-        noticed = ANSWER.fullmatch(theirs)[4].split(",")
-        if ours != theirs and had == self.rusts != amount_of(before) and AMOUNT_NOTICE not in noticed:
+        recorded = CHANGE_NOTICES.intersection(ANSWER.fullmatch(theirs)[4].split(","))
+        if ours != theirs and had == self.rusts != amount_of(before) and not recorded:
             return self.amount(BOTH_HAD_MOVED, amount_of(before), ours, theirs)
         return self.equal(ours, theirs)
 
