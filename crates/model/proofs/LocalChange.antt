@@ -4,18 +4,12 @@ use mathlib.Core.Bool.{Bool, true, false, not, _&&_, cond}
 use Rattle.units.specs.Units.{saturatedDifference}
 use Rattle.units.specs.declared.Hundredths.{Hundredths}
 use Rattle.records.specs.Records.{changedTo}
+use Rattle.model.proofs.Logic.{and-left, and-right}
 use Rattle.model.specs.LocalChange.{heatingFirst, heatsAndCools, bothMoved, localChange, CoolingWhereBothMoved, OneMovedAsBefore, OneSideAsBefore}
 use Rattle.records.specs.declared.Config.{Config}
 
 pub cooling-where-both-moved : CoolingWhereBothMoved
 cooling-where-both-moved cfg h c oldh oldc heat cool mh mc = simp (heat, cool, mh, mc)
-
-and-left : (a b : Bool) → a ≡ false → a && b ≡ false
-and-left a b e = ap (λ (t : Bool). t && b) e
-
-and-right : (a b : Bool) → b ≡ false → a && b ≡ false
-and-right true b e = e
-and-right false b e = refl
 
 module _ (cfg : Config) (h c oldh oldc : Hundredths) where
   as-before : bothMoved cfg h c oldh oldc ≡ false → localChange cfg h c oldh oldc ≡ heatingFirst h c oldh oldc

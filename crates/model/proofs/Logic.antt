@@ -46,6 +46,13 @@ or-right false b e = e
 pub or-left : (a b : Bool) → a ≡ true → a || b ≡ true
 or-left a b e = simp e
 
+pub and-right : (a b : Bool) → b ≡ false → a && b ≡ false
+and-right true b e = e
+and-right false b e = refl
+
+pub and-left : (a b : Bool) → a ≡ false → a && b ≡ false
+and-left a b e = simp e
+
 -- of `a && b` false: a rules b out
 pub not-both : (a b : Bool) → a && b ≡ false → a ≡ true → b ≡ false
 not-both true b e f = e
