@@ -15,7 +15,9 @@ use Rattle.model.specs.Limits.{minHeatSetpoint, maxHeatSetpoint, minCool
 use Rattle.model.specs.Attribution.{external, claimSetpoints}
 use Rattle.model.specs.Repair.{repaired}
 use Rattle.model.specs.RepairedSettings.{repairedLimits, repairedSettings}
-use Rattle.model.specs.Writes.{namesAbsentSide, tooNearCooling, tooNearHeating, coolingWithGap, heatingWithGap, storeHeatingSetpoint, storeCoolingSetpoint, pullHeating, pullCooling, raiseHeating, raiseCooling, raiseBoth, raiseSides}
+use Rattle.model.specs.Writes.{tooNearCooling, tooNearHeating, coolingWithGap, heatingWithGap, storeHeatingSetpoint, storeCoolingSetpoint, pullHeating, pullCooling}
+use Rattle.model.specs.RaiseBoth.{heatingTarget, coolingTarget, targetsStored, raiseBoth}
+use Rattle.model.specs.RaiseLower.{namesAbsentSide, raiseHeating, raiseCooling, raiseSides}
 use Rattle.records.specs.declared.Config.{Config}
 use Rattle.records.specs.declared.Settings.{Settings}
 use Rattle.records.specs.declared.Attrs.{Attrs}
@@ -135,11 +137,8 @@ module _ (cfg : Config) (d : Readings) where
   raise-cool-limits a r = cooling-limits external _ r
 
   raise-both-limits : (a : Tenths) (r : Controller) → KeepsLimits r (raiseBoth cfg d a r)
-  unfolding raiseBoth
-  raise-both-limits a r =
-      let x = cond (heats cfg) (raiseHeating cfg d a r) (unchanged r) in
-      let k : KeepsLimits r x = by-cond (KeepsLimits r) (heats cfg) (raiseHeating cfg d a r) (unchanged r) (λ e. raise-heat-limits a r) (λ e. self (r .attrs .settings)) in
-      by-cond (KeepsLimits r) (cools cfg) (raiseCooling cfg d a (x .rec)) (unchanged (x .rec)) (λ e. chained (raise-cool-limits a (x .rec)) (self (r .attrs .settings)) k) (λ e. k)
+  unfolding raiseBoth claimSetpoints
+  raise-both-limits a r = record { minheat = refl; maxheat = refl; mincool = refl; maxcool = refl }
 
   pub raise-limits : (mode : ℕ) (a : Tenths) (r : Controller) → KeepsLimits r (raiseSides cfg d mode a r)
   unfolding raiseSides
@@ -181,6 +180,11 @@ module _ (cfg : Config) (v : Valid cfg) (a b : Attrs) (l : SameLimits (a .settin
 
 both-test : {X : Type 0} (R : X → X → Type 0) (b c : Bool) (x y u w : X) → b ≡ c → (b ≡ true → R x u) → (b ≡ false → R y w) → R (cond b x y) (cond c u w)
 both-test R b c x y u w e f g = subst (λ (z : Bool). R (cond b x y) (cond z u w)) e (both-cond R b x y u w f g)
+
+-- without AUTO the gap moves nothing
+without-auto : (cfg : Config) (s : Settings) (c : Hundredths) → auto cfg ≡ false → heatingWithGap cfg s c ≡ s .heating
+unfolding heatingWithGap tooNearHeating
+without-auto cfg s c e = simp e
 
 -- setpoints after stores of equal values
 module _ (cfg : Config) (d : Readings) where
@@ -230,20 +234,26 @@ module _ (cfg : Config) (d : Readings) where
     unfolding raiseCooling
     raise-cool-points a c = stored-cool _ _ (same-raised-cool cfg (q .attrs .settings) (r .attrs .settings) l a (p .cooling c))
 
-  module _ (q r : Controller) (l : SameLimits (q .attrs .settings) (r .attrs .settings)) (p : SamePoints cfg (q .attrs .settings) (r .attrs .settings)) where
-    raise-both-points : (a : Tenths) → PointsAlike (raiseBoth cfg d a q) (raiseBoth cfg d a r)
-    unfolding raiseBoth
-    raise-both-points a =
-        let x = cond (heats cfg) (raiseHeating cfg d a q) (unchanged q) in
-        let y = cond (heats cfg) (raiseHeating cfg d a r) (unchanged r) in
-        let m : PointsAlike x y = both-cond PointsAlike (heats cfg) (raiseHeating cfg d a q) (unchanged q) (raiseHeating cfg d a r) (unchanged r) (λ h. raise-heat-points q r l p a h) (λ h. p) in
-        let k : SameLimits (x .rec .attrs .settings) (y .rec .attrs .settings) = both-cond (λ (u w : Stage). SameLimits (u .rec .attrs .settings) (w .rec .attrs .settings)) (heats cfg) (raiseHeating cfg d a q) (unchanged q) (raiseHeating cfg d a r) (unchanged r) (λ h. chained (raise-heat-limits cfg d a q) (raise-heat-limits cfg d a r) l) (λ h. l) in
-        both-cond PointsAlike (cools cfg) (raiseCooling cfg d a (x .rec)) (unchanged (x .rec)) (raiseCooling cfg d a (y .rec)) (unchanged (y .rec)) (λ c. raise-cool-points (x .rec) (y .rec) k m a c) (λ c. m)
+    -- AUTO has both sides, so the gap looks at nothing that differs
+    raise-both-points : Valid cfg → (a : Tenths) → PointsAlike (raiseBoth cfg d a q) (raiseBoth cfg d a r)
+    unfolding raiseBoth claimSetpoints heatingTarget coolingTarget
+    raise-both-points v a =
+        let s = q .attrs .settings in
+        let t = r .attrs .settings in
+        let x = targetsStored cfg a (q .attrs) .settings in
+        let y = targetsStored cfg a (r .attrs) .settings in
+        let h : heats cfg ≡ true → x .heating ≡ y .heating = λ e. simp (e, same-raised-heat cfg s t l a (p .heating e)) in
+        let c : cools cfg ≡ true → x .cooling ≡ y .cooling = λ e. simp (e, same-raised-cool cfg s t l a (p .cooling e)) in
+        let m : SameLimits x y = record { minheat = l .minheat; maxheat = l .maxheat; mincool = l .mincool; maxcool = l .maxcool } in
+        record {
+          heating = λ e. cases (auto cfg) (λ u. same-heating-with-gap cfg x y m (x .cooling) (y .cooling) (c (v .auto-cools u)) (h e)) (λ u. without-auto cfg x (x .cooling) u ∙ h e ∙ sym (without-auto cfg y (y .cooling) u));
+          cooling = c;
+        }
 
-    pub raise-points : (mode : ℕ) (a : Tenths) → namesAbsentSide cfg mode ≡ false → PointsAlike (raiseSides cfg d mode a q) (raiseSides cfg d mode a r)
+    pub raise-points : Valid cfg → (mode : ℕ) (a : Tenths) → namesAbsentSide cfg mode ≡ false → PointsAlike (raiseSides cfg d mode a q) (raiseSides cfg d mode a r)
     unfolding raiseSides namesAbsentSide
-    raise-points mode a z =
+    raise-points v mode a z =
         let n = neither (eqb mode 0 && not (heats cfg)) (eqb mode 1 && not (cools cfg)) z in
-        both-cond PointsAlike (eqb mode 0) (raiseHeating cfg d a q) _ (raiseHeating cfg d a r) _ (λ e. raise-heat-points q r l p a (not-false (heats cfg) (not-both (eqb mode 0) (not (heats cfg)) (n .0) e)))
-        (λ e. both-cond PointsAlike (eqb mode 1) (raiseCooling cfg d a q) _ (raiseCooling cfg d a r) _ (λ f. raise-cool-points q r l p a (not-false (cools cfg) (not-both (eqb mode 1) (not (cools cfg)) (n .1) f)))
-        (λ f. raise-both-points a))
+        both-cond PointsAlike (eqb mode 0) (raiseHeating cfg d a q) _ (raiseHeating cfg d a r) _ (λ e. raise-heat-points a (not-false (heats cfg) (not-both (eqb mode 0) (not (heats cfg)) (n .0) e)))
+        (λ e. both-cond PointsAlike (eqb mode 1) (raiseCooling cfg d a q) _ (raiseCooling cfg d a r) _ (λ f. raise-cool-points a (not-false (cools cfg) (not-both (eqb mode 1) (not (cools cfg)) (n .1) f)))
+        (λ f. raise-both-points v a))

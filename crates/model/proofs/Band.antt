@@ -15,13 +15,15 @@ use Rattle.units.specs.declared.Tenths.{Tenths}
 use Rattle.records.specs.Records.{changedTo, withAttrs, setMinHeat, setMaxHeat, setMinCool, setMaxCool, withPending}
 use Rattle.model.specs.Answers.{Outcome, Stage, quiet, andThen, unchanged}
 use Rattle.model.specs.Refusals.{Row, unless, Clear, numbered}
-use Rattle.model.specs.Served.{heats, cools, auto, listed}
-use Rattle.model.specs.Units.{deadBand}
+use Rattle.model.specs.Served.{auto, listed}
+use Rattle.model.specs.Units.{deadBand, GapKept}
 use Rattle.model.specs.Limits.{minHeatSetpoint, maxHeatSetpoint, minCoolSetpoint, maxCoolSetpoint, inHeatLimits, inCoolLimits, clampHeatSetpoint, clampCoolSetpoint}
 use Rattle.model.specs.Attribution.{external, armedClock, claimSetpoints, servedSetpoints}
 use Rattle.model.specs.Validation.{accepted}
 use Rattle.model.specs.Orders.{askSweep}
-use Rattle.model.specs.Writes.{applied, tooNearCooling, tooNearHeating, coolingWithGap, heatingWithGap, storeHeatingSetpoint, storeCoolingSetpoint, pullHeating, pullCooling, limitStored, raiseHeating, raiseCooling, raiseBoth, raiseSides, writeOccupiedHeatingSetpoint, writeOccupiedCoolingSetpoint, writeMinHeatSetpointLimit, writeMaxHeatSetpointLimit, writeMinCoolSetpointLimit, writeMaxCoolSetpointLimit, writeSystemMode, setControlSequenceOfOperation, raiseLowerSetpoint, armClock}
+use Rattle.model.specs.Writes.{applied, tooNearCooling, tooNearHeating, coolingWithGap, heatingWithGap, storeHeatingSetpoint, storeCoolingSetpoint, pullHeating, pullCooling, limitStored, writeOccupiedHeatingSetpoint, writeOccupiedCoolingSetpoint, writeMinHeatSetpointLimit, writeMaxHeatSetpointLimit, writeMinCoolSetpointLimit, writeMaxCoolSetpointLimit, writeSystemMode, setControlSequenceOfOperation, armClock}
+use Rattle.model.specs.RaiseBoth.{targetsStored, raiseBoth}
+use Rattle.model.specs.RaiseLower.{raiseHeating, raiseCooling, raiseSides, raiseLowerSetpoint}
 use Rattle.model.specs.Messages.{messageTaken, heatingMessage, coolingMessage, modeMessage, limitsMessage, limitsTaken, outOfBandMessage}
 use Rattle.model.specs.Sweep.{Taken, snapshotOf, sameSnapshot, localRecorded, attributedTo, attributeLocalSetpointChange, started, takenFrom, takeEvents, sweepEvents, swept, sweep, timer, seedEvents, deadline}
 use Rattle.model.specs.Step.{opened, step}
@@ -38,12 +40,12 @@ use Rattle.records.specs.declared.OutOfBandMessage.{OutOfBandMessage}
 use Rattle.records.specs.declared.OutOfBandMessage.the-variants.{LocalTemperature, RunningState, Update, OccupiedHeatingSetpoint, OccupiedCoolingSetpoint, SystemMode, SetpointLimits}
 use Rattle.records.specs.declared.Call.{Call}
 use Rattle.records.specs.declared.Call.the-variants.{WriteOccupiedHeatingSetpoint, WriteOccupiedCoolingSetpoint, WriteMinHeatSetpointLimit, WriteMaxHeatSetpointLimit, WriteMinCoolSetpointLimit, WriteMaxCoolSetpointLimit, WriteSystemMode, SetControlSequenceOfOperation, RaiseLowerSetpoint, ArmClock, OutOfBand, SeedEvents, Sweep, Timer, Deadline}
-use Rattle.model.specs.Claims.{Entry, after, number, run, shortGapAfter, shortGapAllowed, GapKept, Band}
+use Rattle.model.specs.Claims.{Entry, after, number, run, shortGapAfter, shortGapAllowed, Band}
 use Rattle.model.proofs.Logic.{clash, not-both, by-cond, by-refusal}
 use Rattle.model.proofs.Valid.{Valid, valid}
 use Rattle.model.proofs.Chain.{InForce, LimitTests, inside, apart, in-force, heating-between, cooling-between, heat-clamped, cool-clamped}
 use Rattle.model.proofs.Repair.{repair-settled}
-use Rattle.model.proofs.Good.{Good, raised-heat, raised-cool, heat-raised, armed-good}
+use Rattle.model.proofs.Good.{Good, cooling-inside, raised-heat, raised-cool, targets-placed, armed-good}
 use Rattle.model.proofs.Kept.{step-good, opened-good, min-heat-tests, max-heat-tests, min-cool-tests, max-cool-tests, far}
 
 module _ (cfg : Config) (s : Settings) (k : InForce cfg s) where
@@ -107,18 +109,17 @@ module _ (cfg : Config) (v : Valid cfg) (d : Readings) where
   unfolding raiseCooling
   cool-raised-gap a r t = cooling-stored-gap external _ r t (raised-cool cfg v d (r .attrs .settings) a (in-force cfg (r .attrs .settings) v t))
 
-  both-raised-gap : (a : Tenths) (r : Controller) → Good cfg r → Gapped (raiseBoth cfg d a r)
-  unfolding raiseBoth
-  both-raised-gap a r g =
-      let x = cond (heats cfg) (raiseHeating cfg d a r) (unchanged r) in
-      let k : Good cfg (x .rec) = by-cond (λ (q : Stage). Good cfg (q .rec)) (heats cfg) (raiseHeating cfg d a r) (unchanged r) (λ e. heat-raised cfg v d a r g) (λ e. g) in
-      by-cond Gapped (cools cfg) (raiseCooling cfg d a (x .rec)) (unchanged (x .rec)) (λ e. cool-raised-gap a (x .rec) (k .placed .limits)) (λ f u. clash (cools cfg) (v .auto-cools u) f)
+  both-raised-gap : (a : Tenths) (r : Controller) → LimitTests cfg (r .attrs .settings) → Gapped (raiseBoth cfg d a r)
+  unfolding raiseBoth claimSetpoints
+  both-raised-gap a r l u =
+      let t = targetsStored cfg a (r .attrs) .settings in
+      let p = targets-placed cfg v d a r l in
+      cooling-gap cfg t (in-force cfg t v (p .limits)) (t .cooling) (cooling-inside cfg t (p .cooling) (v .auto-cools u)) u
 
-  sides-raised-gap : (mode : ℕ) (a : Tenths) (r : Controller) → Good cfg r → Gapped (raiseSides cfg d mode a r)
+  sides-raised-gap : (mode : ℕ) (a : Tenths) (r : Controller) → LimitTests cfg (r .attrs .settings) → Gapped (raiseSides cfg d mode a r)
   unfolding raiseSides
-  sides-raised-gap mode a r g =
-      by-cond Gapped (eqb mode 0) _ _ (λ e. heat-raised-gap a r (g .placed .limits))
-      (λ e. by-cond Gapped (eqb mode 1) _ _ (λ f. cool-raised-gap a r (g .placed .limits)) (λ f. both-raised-gap a r g))
+  sides-raised-gap mode a r l =
+      by-cond Gapped (eqb mode 0) _ _ (λ e. heat-raised-gap a r l) (λ e. by-cond Gapped (eqb mode 1) _ _ (λ f. cool-raised-gap a r l) (λ f. both-raised-gap a r l))
 
   applied-gap : (q : Stage) → Gapped q → GapKept cfg (applied cfg d q .rec .attrs .settings)
   unfolding applied askSweep
@@ -199,7 +200,7 @@ module _ (cfg : Config) (v : Valid cfg) (d : Readings) (r : Controller) (g : Goo
   step-gap (SetControlSequenceOfOperation m) = guarded (SetControlSequenceOfOperation m) r _ _ refl refl (λ c l. old l)
   step-gap (RaiseLowerSetpoint mode amount) =
       let q = armedClock cfg d r in
-      guarded (RaiseLowerSetpoint mode amount) r _ _ refl refl (λ c. guarded (RaiseLowerSetpoint mode amount) q _ _ (settings-armed cfg v d r) refl (λ e l. sides-raised-gap cfg v d mode amount q (armed-good cfg v d r g)))
+      guarded (RaiseLowerSetpoint mode amount) r _ _ refl refl (λ c. guarded (RaiseLowerSetpoint mode amount) q _ _ (settings-armed cfg v d r) refl (λ e l. sides-raised-gap cfg v d mode amount q (armed-good cfg v d r g .placed .limits)))
   step-gap ArmClock = guarded ArmClock r _ _ refl refl (λ c l. subst (λ (a : Attrs). GapKept cfg (a .settings)) (sym (settings-armed cfg v d r)) (old l))
   step-gap (OutOfBand m) = guarded (OutOfBand m) r _ _ refl refl (λ c. message-gap m)
   step-gap SeedEvents = guarded SeedEvents r _ _ refl refl (λ c l. old l)
@@ -214,13 +215,13 @@ module _ (cfg : Config) (v : Valid cfg) where
   run-good [] r g = g
   run-good (e ∷ l) r g = run-good l (after cfg r e) (step-good cfg v (e .readings) r g (e .call))
 
-  run-gap : (l : List Entry) (r : Controller) (b : Bool) → Good cfg r → (b ≡ false → GapKept cfg (r .attrs .settings)) → shortGapAllowed cfg r b l ≡ false → GapKept cfg (run cfg r l .attrs .settings)
+  pub run-gap : (l : List Entry) (r : Controller) (b : Bool) → Good cfg r → (b ≡ false → GapKept cfg (r .attrs .settings)) → shortGapAllowed cfg r b l ≡ false → GapKept cfg (run cfg r l .attrs .settings)
   unfolding run shortGapAllowed
   run-gap [] r b g k z = k z
   run-gap (e ∷ l) r b g k z =
       run-gap l (after cfg r e) (cond (eqb (number cfg r e) 0) (shortGapAfter b (e .call)) b) (step-good cfg v (e .readings) r g (e .call)) (step-gap cfg v (e .readings) r g b k (e .call)) z
 
-opened-gap : (cfg : Config) (s : Settings) → accepted cfg ≡ true → GapKept cfg (opened cfg s .rec .attrs .settings)
+pub opened-gap : (cfg : Config) (s : Settings) → accepted cfg ≡ true → GapKept cfg (opened cfg s .rec .attrs .settings)
 unfolding opened askSweep
 opened-gap cfg s a = rw a (repair-settled cfg (valid cfg a) (record { settings = s; dirty = false }) .gap)
 

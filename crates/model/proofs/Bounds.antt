@@ -9,13 +9,15 @@ use Rattle.units.specs.declared.Hundredths.{Hundredths}
 use Rattle.units.specs.declared.Tenths.{Tenths}
 use Rattle.model.specs.Answers.{Outcome, Stage, onlyIf, quiet, andThen, unchanged}
 use Rattle.model.specs.Refusals.{Row, unless}
-use Rattle.model.specs.Served.{serves, noticed, heats, cools, listed}
+use Rattle.model.specs.Served.{serves, noticed, listed}
 use Rattle.records.specs.Records.{changedTo, withAttrs, withPending, setMinHeat, setMaxHeat, setMinCool, setMaxCool}
 use Rattle.model.specs.Modes.{runningState}
 use Rattle.model.specs.Limits.{inHeatLimits, inCoolLimits, clampHeatSetpoint, clampCoolSetpoint}
 use Rattle.units.specs.Units.{widened}
 use Rattle.model.specs.Attribution.{external, armedClock, servedSetpoints}
-use Rattle.model.specs.Writes.{applied, thenNoticed, coolingWithGap, heatingWithGap, relayNotices, sourceNotices, storeHeatingSetpoint, storeCoolingSetpoint, pullHeating, pullCooling, raiseHeating, raiseCooling, raiseBoth, raiseSides, writeOccupiedHeatingSetpoint, writeOccupiedCoolingSetpoint, writeMinHeatSetpointLimit, writeMaxHeatSetpointLimit, writeMinCoolSetpointLimit, writeMaxCoolSetpointLimit, writeSystemMode, setControlSequenceOfOperation, raiseLowerSetpoint, armClock}
+use Rattle.model.specs.Writes.{applied, thenNoticed, coolingWithGap, heatingWithGap, relayNotices, sourceNotices, storeHeatingSetpoint, storeCoolingSetpoint, pullHeating, pullCooling, writeOccupiedHeatingSetpoint, writeOccupiedCoolingSetpoint, writeMinHeatSetpointLimit, writeMaxHeatSetpointLimit, writeMinCoolSetpointLimit, writeMaxCoolSetpointLimit, writeSystemMode, setControlSequenceOfOperation, armClock}
+use Rattle.model.specs.RaiseBoth.{heatingTarget, coolingTarget, heatingAfterGap, raiseBoth}
+use Rattle.model.specs.RaiseLower.{raiseHeating, raiseCooling, raiseSides, raiseLowerSetpoint}
 use Rattle.model.specs.Messages.{messageTaken, modeMessage, heatingMessage, coolingMessage, limitsMessage, outOfBandMessage}
 use Rattle.model.specs.Sweep.{Taken, started, localRecorded, modeEmitted, temperatureEmitted, coolingEmitted, heatingEmitted, relaysEmitted, runningModeEmitted, sameSnapshot, snapshotOf, noticeTable, rowNotices, tableNotices, attributedTo, attributeLocalSetpointChange, eventsOf, takenFrom, takeEvents, sweepEvents, swept, sweep, timer, seedEvents, deadline}
 use Rattle.model.specs.Step.{step}
@@ -61,11 +63,13 @@ module _ (cfg : Config) (d : Readings) where
   unfolding sourceNotices
   source-most = simp length-append (omega (arith, notice-most 0x30, notice-most 0x31, notice-most 0x32))
 
-  -- a store: the setpoint with its source, and the other setpoint
+  -- a setpoint with its source; and a store, with the other setpoint
+  moved-most : (t : Bool) (code : ℕ) → AtMost 4 (onlyIf t (noticed cfg code ++ sourceNotices cfg))
+  moved-most t code =
+      omega (arith, length-onlyIf t (noticed cfg code ++ sourceNotices cfg), length-append (noticed cfg code) (sourceNotices cfg), notice-most code, source-most)
+
   stored-most : (t u : Bool) (code other : ℕ) → AtMost 5 (onlyIf t (noticed cfg code ++ sourceNotices cfg) ++ onlyIf u (noticed cfg other))
-  stored-most t u code other =
-      let l = noticed cfg code ++ sourceNotices cfg in
-      simp length-append (omega (arith, length-onlyIf t l, length-append (noticed cfg code) (sourceNotices cfg), length-onlyIf u (noticed cfg other), notice-most code, notice-most other, source-most))
+  stored-most t u code other = simp length-append (omega (arith, moved-most t code, length-onlyIf u (noticed cfg other), notice-most other))
 
   heating-most : (source : ℕ) (v : Hundredths) (r : Controller) → AtMost 5 (storeHeatingSetpoint cfg d source v r .notices)
   unfolding storeHeatingSetpoint
@@ -119,11 +123,10 @@ module _ (cfg : Config) (d : Readings) where
   both-most : (a : Tenths) (r : Controller) → AtMost 10 (raiseBoth cfg d a r .notices)
   unfolding raiseBoth
   both-most a r =
-      let x = cond (heats cfg) (raiseHeating cfg d a r) (unchanged r) in
-      let q = x .rec in
-      let h = pick-most 5 (heats cfg) (raiseHeating cfg d a r) (unchanged r) (raise-heat-most a r) (omega arith) in
-      let c = pick-most 5 (cools cfg) (raiseCooling cfg d a q) (unchanged q) (raise-cool-most a q) (omega arith) in
-      simp length-append (omega arith)
+      let s = r .attrs .settings in
+      let h = heatingTarget cfg s a in
+      simp length-append
+      (omega (arith, moved-most (changedTo (s .heating) h) 0x12, moved-most (changedTo (s .cooling) (coolingTarget cfg s a)) 0x11, length-onlyIf (changedTo h (heatingAfterGap cfg a (r .attrs))) (noticed cfg 0x12), notice-most 0x12))
 
   sides-most : (mode : ℕ) (a : Tenths) (r : Controller) → AtMost 10 (raiseSides cfg d mode a r .notices)
   unfolding raiseSides

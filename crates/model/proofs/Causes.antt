@@ -8,7 +8,8 @@ use borrow.Author.Tests.{eqb-true}
 use Rattle.model.specs.Answers.{Outcome, quiet}
 use Rattle.model.specs.Refusals.{Row, firstFailing, thenRows, unless, FirstCause, Clear, numbered}
 use Rattle.model.specs.Validation.{validationRows, featureRows, attributeRows, limitRows, eventRows, numberRows, validated, accepted}
-use Rattle.model.specs.Writes.{applied, writeOccupiedHeatingSetpoint, writeOccupiedCoolingSetpoint, writeMinHeatSetpointLimit, writeMaxHeatSetpointLimit, writeMinCoolSetpointLimit, writeMaxCoolSetpointLimit, writeSystemMode, setControlSequenceOfOperation, raiseLowerSetpoint, armClock}
+use Rattle.model.specs.Writes.{applied, writeOccupiedHeatingSetpoint, writeOccupiedCoolingSetpoint, writeMinHeatSetpointLimit, writeMaxHeatSetpointLimit, writeMinCoolSetpointLimit, writeMaxCoolSetpointLimit, writeSystemMode, setControlSequenceOfOperation, armClock}
+use Rattle.model.specs.RaiseLower.{raiseLowerSetpoint}
 use Rattle.model.specs.Messages.{messageTaken, heatingMessage, coolingMessage, modeMessage, limitsMessage, outOfBandMessage}
 use Rattle.model.specs.Sweep.{sweep, timer, seedEvents, deadline}
 use Rattle.model.specs.Causes.{ofMessage, rowsIn, causes}

@@ -1,4 +1,4 @@
--- The instances of line 3, what its premises rule out, document 01's four traps and C-20's case, computed.
+-- The instances of line 3, what its premises rule out, document 01's four traps and the cases of C-14 and C-20, computed.
 use mathlib.Core.Path.{_≡_, refl}
 use mathlib.Core.List.{List, [], _∷_, _++_}
 use Prim.Native.Nat.{ℕ}
@@ -6,7 +6,7 @@ use Rattle.model.specs.Step.{opened}
 use Rattle.model.specs.Plant.{at, plant, plantSettings, noReadings}
 use Rattle.model.specs.Claims.{Entry, limitsEntry, number, run, AllAccepted, Adjacent, heating-cooling, heating-only, cooling-only, LimitsThenWrites, ModeWritten, AgreeAfter}
 use Rattle.model.specs.RepairedSettings.{AdjustmentActs}
-use Rattle.model.specs.Examples.{withoutReadings, before, between, later, bothWrites, withWrites, otherSettings, heatingPlant, refusedLater, heatingLater, coolingPlant, coolingLater, BothSides, HeatingOnly, CoolingOnly, CallBetweenDiffers, LimitWritesDiffer, DirtyThoughUndone, EqualWriteKeepsGap, MessageWithoutOrder, ArmedSecondOnce, PanelMovedBoth}
+use Rattle.model.specs.Examples.{withoutReadings, before, between, later, bothWrites, withWrites, otherSettings, heatingPlant, refusedLater, heatingLater, coolingPlant, coolingLater, BothSides, HeatingOnly, CoolingOnly, CallBetweenDiffers, LimitWritesDiffer, DirtyThoughUndone, EqualWriteKeepsGap, MessageWithoutOrder, ArmedSecondOnce, SameAmountForBoth, HeatingGivesWay, FirstRecordIsCoolings, PanelMovedBoth}
 use Rattle.model.specs.Everything.{everything}
 use Rattle.records.specs.declared.Config.{Config}
 use Rattle.records.specs.declared.Controller.{Controller}
@@ -110,6 +110,18 @@ armed-second-once = (refl, refl, refl)
 pub adjustment-acts : AdjustmentActs
 unfolding everything
 adjustment-acts = (refl, refl, refl)
+
+pub same-amount-for-both : SameAmountForBoth
+unfolding everything
+same-amount-for-both = (refl, refl, refl)
+
+pub heating-gives-way : HeatingGivesWay
+unfolding everything
+heating-gives-way = (refl, refl, refl, refl, refl, refl)
+
+pub first-record-is-coolings : FirstRecordIsCoolings
+unfolding everything
+first-record-is-coolings = (refl, refl)
 
 pub panel-moved-both : PanelMovedBoth
 unfolding everything

@@ -1,6 +1,6 @@
 -- What row 28 asks of a record, and that each store and message keeps it.
 use mathlib.Core.Path.{_≡_}
-use mathlib.Core.Bool.{true, false, _&&_, _||_, cond}
+use mathlib.Core.Bool.{true, false, _&&_, _||_}
 use Prim.Native.Nat.{ℕ}
 use lib.Dec.{eqb, ltb}
 use borrow.Author.Tests.{not-false, ltb-false, le-leb}
@@ -16,7 +16,9 @@ use Rattle.model.specs.Attribution.{external, armedClock, claimSetpoints
 use Rattle.model.specs.Validation.{accepted}
 use Rattle.model.specs.Sound.{lastClock, soundHeatLimits, soundCoolLimits, soundGap, soundHeating, soundCooling, soundSettings, soundLast, sound}
 use Rattle.model.specs.Orders.{askSweep}
-use Rattle.model.specs.Writes.{applied, tooNearCooling, tooNearHeating, coolingWithGap, heatingWithGap, storeHeatingSetpoint, storeCoolingSetpoint, pullHeating, pullCooling, raiseHeating, raiseCooling, raiseBoth, raiseSides}
+use Rattle.model.specs.Writes.{applied, tooNearCooling, tooNearHeating, coolingWithGap, heatingWithGap, storeHeatingSetpoint, storeCoolingSetpoint, pullHeating, pullCooling}
+use Rattle.model.specs.RaiseBoth.{heatingTarget, coolingTarget, targetsStored, heatingAfterGap, raiseBoth}
+use Rattle.model.specs.RaiseLower.{raiseHeating, raiseCooling, raiseSides}
 use Rattle.model.specs.Messages.{messageTaken, heatingMessage, coolingMessage, modeMessage, limitsMessage, limitsTaken}
 use Rattle.model.specs.Sweep.{Taken, snapshotOf, started, attributedTo, localRecorded, attributeLocalSetpointChange, sameSnapshot, committed, temperatureEmitted, takenFrom, takeEvents, sweepEvents, swept}
 use Rattle.records.specs.declared.Config.{Config}
@@ -159,12 +161,32 @@ module _ (cfg : Config) (v : Valid cfg) (d : Readings) where
   unfolding raiseCooling
   cool-raised a r g = cooling-stored external _ r (rest cfg r g) (g .placed .heating) (raised-cool (r .attrs .settings) a (in-force cfg (r .attrs .settings) v (g .placed .limits)))
 
+  -- a target of Both is clamped
+  pub heat-target : (s : Settings) (a : Tenths) → InForce cfg s → heats cfg ≡ true → inHeatLimits cfg s (heatingTarget cfg s a) ≡ true
+  unfolding heatingTarget
+  heat-target s a k h = rw h (raised-heat s a k)
+
+  pub cool-target : (s : Settings) (a : Tenths) → InForce cfg s → cools cfg ≡ true → inCoolLimits cfg s (coolingTarget cfg s a) ≡ true
+  unfolding coolingTarget
+  cool-target s a k c = rw c (raised-cool s a k)
+
+  -- the settings with both targets
+  pub targets-placed : (a : Tenths) (r : Controller) → LimitTests cfg (r .attrs .settings) → Placed cfg (targetsStored cfg a (r .attrs) .settings)
+  targets-placed a r l =
+      let s = r .attrs .settings in
+      let k = in-force cfg s v l in
+      points-placed cfg v s l (heatingTarget cfg s a) (coolingTarget cfg s a) (heat-target s a k) (cool-target s a k)
+
   pub both-raised : (a : Tenths) (r : Controller) → Good cfg r → GoodStage (raiseBoth cfg d a r)
-  unfolding raiseBoth
+  unfolding raiseBoth claimSetpoints soundCooling
   both-raised a r g =
-      let x = cond (heats cfg) (raiseHeating cfg d a r) (unchanged r) in
-      let k : GoodStage x = by-cond GoodStage (heats cfg) (raiseHeating cfg d a r) (unchanged r) (λ e. heat-raised a r g) (λ e. g) in
-      by-cond GoodStage (cools cfg) (raiseCooling cfg d a (x .rec)) (unchanged (x .rec)) (λ e. cool-raised a (x .rec) k) (λ e. k)
+      let p = targets-placed a r (g .placed .limits) in
+      let t = targetsStored cfg a (r .attrs) .settings in
+      record {
+        placed = points-placed cfg v t (p .limits) (heatingAfterGap cfg a (r .attrs)) (t .cooling) (heating-gap-inside cfg v t (p .limits) (t .cooling) (heating-inside cfg t (p .heating))) (cooling-inside cfg t (p .cooling));
+        mode = g .mode;
+        last = g .last;
+      }
 
   pub sides-raised : (mode : ℕ) (a : Tenths) (r : Controller) → Good cfg r → GoodStage (raiseSides cfg d mode a r)
   unfolding raiseSides

@@ -20,7 +20,8 @@ use Rattle.model.specs.Attribution.{external, armedClock}
 use Rattle.model.specs.Validation.{accepted}
 use Rattle.model.specs.Sound.{soundHeatLimits, soundCoolLimits, soundHeating, soundCooling}
 use Rattle.model.specs.Orders.{askSweep}
-use Rattle.model.specs.Writes.{minHeatRows, maxHeatRows, minCoolRows, maxCoolRows, applied, pullHeating, pullCooling, limitStored, writeOccupiedHeatingSetpoint, writeOccupiedCoolingSetpoint, writeMinHeatSetpointLimit, writeMaxHeatSetpointLimit, writeMinCoolSetpointLimit, writeMaxCoolSetpointLimit, writeSystemMode, setControlSequenceOfOperation, raiseLowerSetpoint, armClock}
+use Rattle.model.specs.Writes.{minHeatRows, maxHeatRows, minCoolRows, maxCoolRows, applied, pullHeating, pullCooling, limitStored, writeOccupiedHeatingSetpoint, writeOccupiedCoolingSetpoint, writeMinHeatSetpointLimit, writeMaxHeatSetpointLimit, writeMinCoolSetpointLimit, writeMaxCoolSetpointLimit, writeSystemMode, setControlSequenceOfOperation, armClock}
+use Rattle.model.specs.RaiseLower.{raiseLowerSetpoint}
 use Rattle.model.specs.Messages.{outOfBandMessage}
 use Rattle.model.specs.Sweep.{sweep, timer, seedEvents, deadline}
 use Rattle.model.specs.Step.{opened, step}

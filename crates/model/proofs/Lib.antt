@@ -12,6 +12,7 @@ pub mod LocalChange
 pub mod Good
 pub mod Kept
 pub mod Band
+pub mod RaiseBoth
 pub mod Agree
 pub mod Mode
 pub mod Pairs

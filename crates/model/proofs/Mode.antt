@@ -8,7 +8,6 @@ use Rattle.units.specs.declared.Tenths.{Tenths}
 use Rattle.records.specs.Records.{withAttrs, setMinHeat, setMaxHeat, setMinCool, setMaxCool}
 use Rattle.model.specs.Answers.{Outcome, Stage, quiet, unchanged}
 use Rattle.model.specs.Refusals.{Row, row, unless}
-use Rattle.model.specs.Served.{heats, cools}
 use Rattle.model.specs.Limits.{inHeatLimits, inCoolLimits}
 use Rattle.model.specs.Modes.{isSupportedSystemMode}
 use Rattle.model.specs.Attribution.{armedClock, claimSetpoints}
@@ -16,7 +15,9 @@ use Rattle.model.specs.Repair.{repaired}
 use Rattle.model.specs.RepairedSettings.{repairedSettings}
 use Rattle.model.specs.Sound.{sound, unsound}
 use Rattle.model.specs.Orders.{askSweep}
-use Rattle.model.specs.Writes.{applied, storeHeatingSetpoint, storeCoolingSetpoint, pullHeating, pullCooling, raiseHeating, raiseCooling, raiseBoth, raiseSides, writeOccupiedHeatingSetpoint, writeOccupiedCoolingSetpoint, writeMinHeatSetpointLimit, writeMaxHeatSetpointLimit, writeMinCoolSetpointLimit, writeMaxCoolSetpointLimit, writeSystemMode, setControlSequenceOfOperation, raiseLowerSetpoint, armClock}
+use Rattle.model.specs.Writes.{applied, storeHeatingSetpoint, storeCoolingSetpoint, pullHeating, pullCooling, writeOccupiedHeatingSetpoint, writeOccupiedCoolingSetpoint, writeMinHeatSetpointLimit, writeMaxHeatSetpointLimit, writeMinCoolSetpointLimit, writeMaxCoolSetpointLimit, writeSystemMode, setControlSequenceOfOperation, armClock}
+use Rattle.model.specs.RaiseBoth.{raiseBoth}
+use Rattle.model.specs.RaiseLower.{raiseHeating, raiseCooling, raiseSides, raiseLowerSetpoint}
 use Rattle.model.specs.Messages.{messageTaken, heatingMessage, coolingMessage, modeMessage, limitsMessage, limitsTaken, outOfBandMessage}
 use Rattle.model.specs.Sweep.{sweep, timer, started, seedEvents, deadline}
 use Rattle.model.specs.Step.{step}
@@ -86,11 +87,8 @@ module _ (cfg : Config) (d : Readings) where
   raise-cool-mode a r = refl
 
   raise-both-mode : (a : Tenths) (r : Controller) → SameMode r (raiseBoth cfg d a r)
-  unfolding raiseBoth
-  raise-both-mode a r =
-      let x = cond (heats cfg) (raiseHeating cfg d a r) (unchanged r) in
-      let k : SameMode r x = by-cond (SameMode r) (heats cfg) (raiseHeating cfg d a r) (unchanged r) (λ e. raise-heat-mode a r) (λ e. refl) in
-      by-cond (SameMode r) (cools cfg) (raiseCooling cfg d a (x .rec)) (unchanged (x .rec)) (λ e. raise-cool-mode a (x .rec) ∙ k) (λ e. k)
+  unfolding raiseBoth claimSetpoints
+  raise-both-mode a r = refl
 
   raise-mode : (mode : ℕ) (a : Tenths) (r : Controller) → SameMode r (raiseSides cfg d mode a r)
   unfolding raiseSides

@@ -16,7 +16,8 @@ use Rattle.model.specs.Validation.{accepted}
 use Rattle.model.specs.Repair.{repaired}
 use Rattle.model.specs.Sound.{sound, unsound}
 use Rattle.model.specs.Orders.{askSweep}
-use Rattle.model.specs.Writes.{minHeatRows, maxHeatRows, minCoolRows, maxCoolRows, unserved, applied, namesAbsentSide, pullHeating, pullCooling, limitStored, raiseSides, writeOccupiedHeatingSetpoint, writeOccupiedCoolingSetpoint, writeMinHeatSetpointLimit, writeMaxHeatSetpointLimit, writeMinCoolSetpointLimit, writeMaxCoolSetpointLimit, writeSystemMode, setControlSequenceOfOperation, raiseLowerSetpoint, armClock}
+use Rattle.model.specs.Writes.{minHeatRows, maxHeatRows, minCoolRows, maxCoolRows, unserved, applied, pullHeating, pullCooling, limitStored, writeOccupiedHeatingSetpoint, writeOccupiedCoolingSetpoint, writeMinHeatSetpointLimit, writeMaxHeatSetpointLimit, writeMinCoolSetpointLimit, writeMaxCoolSetpointLimit, writeSystemMode, setControlSequenceOfOperation, armClock}
+use Rattle.model.specs.RaiseLower.{namesAbsentSide, raiseSides, raiseLowerSetpoint}
 use Rattle.model.specs.Messages.{messageTaken, heatingMessage, coolingMessage, modeMessage, limitsMessage, limitsTaken, outOfBandMessage}
 use Rattle.model.specs.Sweep.{sweep, timer, started, seedEvents, deadline}
 use Rattle.model.specs.Step.{step}
@@ -167,7 +168,7 @@ module _ (cfg : Config) (ok : accepted cfg ≡ true) (d : Readings) (q r : Contr
   raised-both mode a z =
       let x = armedClock cfg d q in
       let y = armedClock cfg d r in
-      record { number = refl; limits = chained (raise-limits cfg d mode a x) (raise-limits cfg d mode a y) l; points = λ p. raise-points cfg d x y l p mode a z }
+      record { number = refl; limits = chained (raise-limits cfg d mode a x) (raise-limits cfg d mode a y) l; points = λ p. raise-points cfg d x y l p v mode a z }
 
   pub step-both : (k : Call) → Both (step cfg q d k) (step cfg r d k)
   unfolding step writeOccupiedHeatingSetpoint writeOccupiedCoolingSetpoint writeMinHeatSetpointLimit writeMaxHeatSetpointLimit writeMinCoolSetpointLimit writeMaxCoolSetpointLimit writeSystemMode setControlSequenceOfOperation raiseLowerSetpoint armClock outOfBandMessage seedEvents sweep timer deadline applied askSweep started claimSetpoints

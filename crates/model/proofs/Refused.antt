@@ -10,7 +10,8 @@ use Rattle.model.specs.Answers.{Outcome, quiet}
 use borrow.Author.Tests.{eqb-false}
 use Rattle.model.specs.Refusals.{Row, row, unless, numbered}
 use Rattle.model.specs.Attribution.{armedClock}
-use Rattle.model.specs.Writes.{applied, namesAbsentSide, raiseSides, writeOccupiedHeatingSetpoint, writeOccupiedCoolingSetpoint, writeMinHeatSetpointLimit, writeMaxHeatSetpointLimit, writeMinCoolSetpointLimit, writeMaxCoolSetpointLimit, writeSystemMode, setControlSequenceOfOperation, raiseLowerSetpoint, armClock}
+use Rattle.model.specs.Writes.{applied, writeOccupiedHeatingSetpoint, writeOccupiedCoolingSetpoint, writeMinHeatSetpointLimit, writeMaxHeatSetpointLimit, writeMinCoolSetpointLimit, writeMaxCoolSetpointLimit, writeSystemMode, setControlSequenceOfOperation, armClock}
+use Rattle.model.specs.RaiseLower.{namesAbsentSide, raiseSides, raiseLowerSetpoint}
 use Rattle.model.specs.Messages.{messageTaken, heatingMessage, coolingMessage, modeMessage, limitsMessage, outOfBandMessage}
 use Rattle.model.specs.Sweep.{noticeTable, tableNotices, sweepEvents, swept, notify, sweep, timer, seedEvents, deadline}
 use Rattle.model.specs.Validation.{validated, accepted}

@@ -9,13 +9,12 @@ use Rattle.integers.specs.Clamp.{clampZ, maxZ, minZ, max-parts, min-parts, clam
 use Rattle.units.specs.Units.{hundredths, plus, minus, widened, greater, clamped}
 use Rattle.units.specs.declared.Hundredths.{Hundredths}
 use Rattle.model.specs.Served.{heats, cools, auto, hasHeatLimits, hasCoolLimits}
-use Rattle.model.specs.Units.{deadBand}
+use Rattle.model.specs.Units.{deadBand, GapKept}
 use Rattle.model.specs.Limits.{minHeatSetpoint, maxHeatSetpoint, minCoolSetpoint, maxCoolSetpoint, inHeatLimits, inCoolLimits, clampHeatSetpoint, clampCoolSetpoint}
 use Rattle.model.specs.Modes.{isSupportedSystemMode}
 use Rattle.model.specs.Repair.{clampMinHeat, clampMaxHeat, clampMinCool, clampMaxCool, pullMinHeat, pullMaxHeat, clampHeating, clampCooling, pushCooling, repairMode, repairLimits, repairSetpoints, repaired}
 use Rattle.model.specs.RepairedSettings.{greaterWithAuto, supportedMode, repairedLimits, repairedSettings}
 use Rattle.model.specs.Sound.{soundHeatLimits, soundCoolLimits, soundGap, soundHeating, soundCooling}
-use Rattle.model.specs.Claims.{GapKept}
 use Rattle.records.specs.declared.Config.{Config}
 use Rattle.records.specs.declared.Settings.{Settings}
 use Rattle.records.specs.declared.Attrs.{Attrs}

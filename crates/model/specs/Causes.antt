@@ -8,7 +8,8 @@ use Rattle.model.specs.Served.{serves}
 use Rattle.model.specs.Limits.{inHeatLimits, inCoolLimits}
 use Rattle.model.specs.Modes.{isSupportedSystemMode}
 use Rattle.model.specs.Sound.{lastClock, sound}
-use Rattle.model.specs.Writes.{namesAbsentSide, minHeatRefused, maxHeatRefused, minCoolRefused, maxCoolRefused}
+use Rattle.model.specs.Writes.{minHeatRefused, maxHeatRefused, minCoolRefused, maxCoolRefused}
+use Rattle.model.specs.RaiseLower.{namesAbsentSide}
 use Rattle.records.specs.declared.Config.{Config}
 use Rattle.records.specs.declared.Settings.{Settings}
 use Rattle.records.specs.declared.Controller.{Controller}

@@ -1,17 +1,18 @@
--- Line 3 of document 01, over whole lists: agreement of two controllers, the band of each, and both as one claim, `LineThree`.
+-- Line 3 of document 01, over whole lists: agreement of two controllers, the band of each, and both as one claim, `LineThree`; and C-14's.
 -- docs/THEOREM.md says the same in plain words.
 use mathlib.Core.Path.{_≡_}
 use mathlib.Core.Bool.{Bool, true, false, cond}
 use mathlib.Core.List.{List, [], _∷_, _++_}
 use Prim.Native.Nat.{ℕ}
 use lib.Dec.{eqb}
-use lib.IntN.{_+ℤ_}
 use lib.Signed.{_≤ℤ_}
 use Rattle.units.specs.declared.Hundredths.{Hundredths}
-use Rattle.model.specs.Served.{auto, serves}
-use Rattle.model.specs.Units.{deadBand}
+use Rattle.units.specs.declared.Tenths.{Tenths}
+use Rattle.model.specs.Served.{serves}
+use Rattle.model.specs.Units.{GapKept}
 use Rattle.model.specs.Limits.{minHeatSetpoint, maxHeatSetpoint, minCoolSetpoint, maxCoolSetpoint}
 use Rattle.model.specs.Validation.{accepted}
+use Rattle.model.specs.RaiseBoth.{heatingTarget, coolingTarget}
 use Rattle.model.specs.Step.{opened, step}
 use Rattle.records.specs.declared.Config.{Config}
 use Rattle.records.specs.declared.Settings.{Settings}
@@ -166,10 +167,6 @@ pub record InBand (cfg : Config) (s : Settings) : Type 0 where
   pub heating : serves cfg 0x12 ≡ true → (minHeatSetpoint cfg s .0 ≤ℤ s .heating .0) × (s .heating .0 ≤ℤ maxHeatSetpoint cfg s .0)
   pub cooling : serves cfg 0x11 ≡ true → (minCoolSetpoint cfg s .0 ≤ℤ s .cooling .0) × (s .cooling .0 ≤ℤ maxCoolSetpoint cfg s .0)
 
--- with AUTO heating plus dead band at most cooling, exactly, in hundredths
-abbrev pub GapKept : Config → Settings → Type 0
-GapKept cfg s = auto cfg ≡ true → (s .heating .0 +ℤ deadBand cfg .0) ≤ℤ s .cooling .0
-
 -- after the list the setpoints lie in their band, and the gap is kept unless a short one is allowed
 abbrev pub BandAfter : Config → Settings → List Entry → Type 0
 BandAfter cfg s l =
@@ -179,6 +176,14 @@ BandAfter cfg s l =
 -- Band. After opening and after each call of any list
 abbrev pub Band : Type 0
 Band = (cfg : Config) (s : Settings) (l : List Entry) → accepted cfg ≡ true → BandAfter cfg s l
+
+-- C-14. Where no short gap is allowed Both leaves each setpoint at its target: heating gives way only after an out-of-band setpoint
+abbrev pub BothAtTargets : Type 0
+BothAtTargets =
+    (cfg : Config) (s : Settings) (l : List Entry) (amount : Tenths) (d : Readings) → accepted cfg ≡ true → shortGapAllowed cfg (opened cfg s .rec) false l ≡ false →
+    let r = run cfg (opened cfg s .rec) l in
+    let q = after cfg r (entry (RaiseLowerSetpoint 2 amount) d) in
+    (q .attrs .settings .heating ≡ heatingTarget cfg (r .attrs .settings) amount) × (q .attrs .settings .cooling ≡ coolingTarget cfg (r .attrs .settings) amount)
 
 -- Line 3. On one accepted configuration two controllers, each opened on its own settings, get the same list of calls: after all of it each has its
 -- setpoints in their band, and once its front part has a limits message, adjacent setpoint writes and a mode write, accepted by one of them, both

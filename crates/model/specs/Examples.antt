@@ -1,5 +1,5 @@
 -- Line 3 at work: lists that meet its premises on document 01's plant, on one that only heats and on one that only cools; what its premises rule out;
--- document 01's four traps and C-20's case, computed. docs/THEOREM.md describes each.
+-- document 01's four traps and the cases of C-14 and C-20, computed. docs/THEOREM.md describes each.
 use mathlib.Core.Path.{_≡_}
 use mathlib.Core.Bool.{true, false}
 use mathlib.Core.List.{List, [], _∷_, _++_}
@@ -16,7 +16,7 @@ use Rattle.records.specs.declared.Controller.{Controller}
 use Rattle.records.specs.declared.Readings.{Readings}
 use Rattle.records.specs.declared.Temperature.the-variants.{NoReading, Reading}
 use Rattle.records.specs.declared.Second.the-variants.{NoSecond, At}
-use Rattle.records.specs.declared.Amount.the-variants.{Moved}
+use Rattle.records.specs.declared.Amount.the-variants.{NoAmount, Moved}
 use Rattle.records.specs.declared.Attributed.the-variants.{Claimed}
 use Rattle.records.specs.declared.Event.the-variants.{SetpointChange}
 use Rattle.records.specs.declared.Order.the-variants.{NoOrder}
@@ -62,7 +62,7 @@ withWrites writes after = before ++ (limitsEntry (at 1000) (at 2500) (at 1800) (
 abbrev pub BothSides : Type 0
 BothSides =
     Instance plant (plantSettings 2000 2250) otherSettings (withWrites bothWrites later)
-    (0 ∷ 0 ∷ 22 ∷ 0 ∷ 0 ∷ 0 ∷ 0 ∷ 0 ∷ 0 ∷ 0 ∷ 25 ∷ 0 ∷ 0 ∷ []) (pos 1950 ∷ pos 2300 ∷ [])
+    (0 ∷ 0 ∷ 22 ∷ 0 ∷ 0 ∷ 0 ∷ 0 ∷ 0 ∷ 0 ∷ 0 ∷ 25 ∷ 0 ∷ 0 ∷ []) (pos 1950 ∷ pos 2200 ∷ [])
 
 -- the plant with one side: its features with TEVT, its attributes with those of the mode, the sequence, the temperature, the relays and the source;
 -- events mode, temperature, setpoint and relays
@@ -170,6 +170,37 @@ raised mode = step plant first (nodeAt 7) (RaiseLowerSetpoint mode (record { 0 =
 
 abbrev pub ArmedSecondOnce : Type 0
 ArmedSecondOnce = (raised 0 .change .timestamp ≡ 7) × (raised 2 .change .timestamp ≡ 0) × (raised 2 .change .armed ≡ NoSecond)
+
+-- C-14. Both by one degree: each side by the same amount, the armed second in the first record. After an out-of-band setpoint heating gives way, with a
+-- second 0x12 where its target differed, and the gap is looked at even if no target differs. Where heating stands at its limit, cooling's record is the first
+abbrev pub bothRaised : List Entry → ℕ → Outcome
+bothRaised list amount = step plant (run plant first list) (nodeAt 7) (RaiseLowerSetpoint 2 (record { 0 = pos amount }))
+
+abbrev pub shortGap : List Entry
+shortGap = withoutReadings (OutOfBand (OccupiedCoolingSetpoint (at 2150))) ∷ []
+
+abbrev pub heatingAtLimit : List Entry
+heatingAtLimit = withoutReadings (WriteOccupiedHeatingSetpoint (at 2900)) ∷ withoutReadings (WriteOccupiedCoolingSetpoint (at 3150)) ∷ []
+
+abbrev pub SameAmountForBoth : Type 0
+SameAmountForBoth =
+    (setpoints (bothRaised [] 10 .rec) ≡ pos 2100 ∷ pos 2350 ∷ [])
+    × (bothRaised [] 10 .rec .change ≡ record { source = 2; amount = Moved (at 100); timestamp = 0; attributed = Claimed (at 2100) (at 2350); armed = NoSecond })
+    × (bothRaised [] 10 .notices ≡ 0x12 ∷ 0x30 ∷ 0x31 ∷ 0x32 ∷ 0x11 ∷ 0x30 ∷ 0x31 ∷ 0x32 ∷ [])
+
+abbrev pub HeatingGivesWay : Type 0
+HeatingGivesWay =
+    (setpoints (bothRaised shortGap 10 .rec) ≡ pos 2000 ∷ pos 2250 ∷ [])
+    × (bothRaised shortGap 10 .rec .change .attributed ≡ Claimed (at 2000) (at 2250))
+    × (bothRaised shortGap 10 .notices ≡ 0x12 ∷ 0x30 ∷ 0x31 ∷ 0x32 ∷ 0x11 ∷ 0x30 ∷ 0x31 ∷ 0x32 ∷ 0x12 ∷ [])
+    × (setpoints (bothRaised shortGap 0 .rec) ≡ pos 1900 ∷ pos 2150 ∷ [])
+    × (bothRaised shortGap 0 .rec .change ≡ record { source = 0; amount = NoAmount; timestamp = 0; attributed = Claimed (at 1900) (at 2150); armed = At 7 })
+    × (bothRaised shortGap 0 .notices ≡ 0x12 ∷ [])
+
+abbrev pub FirstRecordIsCoolings : Type 0
+FirstRecordIsCoolings =
+    (bothRaised heatingAtLimit 10 .rec .change ≡ record { source = 2; amount = Moved (at 50); timestamp = 7; attributed = Claimed (at 2900) (at 3200); armed = NoSecond })
+    × (bothRaised heatingAtLimit 10 .notices ≡ 0x11 ∷ 0x30 ∷ 0x31 ∷ 0x32 ∷ [])
 
 -- C-20. A panel turns both setpoints, or one, from outside between two sweeps: cooling's amount if both, its own if one; all else is document 01's
 abbrev pub heatingTurned : Entry

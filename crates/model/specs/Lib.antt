@@ -12,6 +12,8 @@ pub mod Repair
 pub mod RepairedSettings
 pub mod Sound
 pub mod Writes
+pub mod RaiseBoth
+pub mod RaiseLower
 pub mod Messages
 pub mod LocalChange
 pub mod Sweep

@@ -75,7 +75,7 @@ entry n a h c = record { call = n; answer = a; heating = pos h; cooling = pos c 
 
 abbrev pub tenLines : List Line
 tenLines =
-    entry 1 0 2000 2250 ∷ entry 2 0 2100 2350 ∷ entry 3 22 2100 2350 ∷ entry 4 0 2200 2550 ∷ entry 5 0 2200 2300 ∷
+    entry 1 0 2000 2250 ∷ entry 2 0 2100 2350 ∷ entry 3 22 2100 2350 ∷ entry 4 0 2200 2450 ∷ entry 5 0 2200 2300 ∷
     entry 6 22 2200 2300 ∷ entry 7 0 2050 2300 ∷ entry 8 0 1350 1600 ∷ entry 9 25 1350 1600 ∷ entry 10 0 1350 1600 ∷ []
 
 -- marked: difference 49 no, 50 yes; both null no; 59,999 ms no, 60,000 yes

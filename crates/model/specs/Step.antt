@@ -4,7 +4,8 @@ use Rattle.records.specs.Records.{blank}
 use Rattle.model.specs.Answers.{Outcome, quiet}
 use Rattle.model.specs.Validation.{validated, accepted}
 use Rattle.model.specs.Repair.{repairedRecord}
-use Rattle.model.specs.Writes.{writeOccupiedHeatingSetpoint, writeOccupiedCoolingSetpoint, writeMinHeatSetpointLimit, writeMaxHeatSetpointLimit, writeMinCoolSetpointLimit, writeMaxCoolSetpointLimit, writeSystemMode, setControlSequenceOfOperation, raiseLowerSetpoint, armClock}
+use Rattle.model.specs.Writes.{writeOccupiedHeatingSetpoint, writeOccupiedCoolingSetpoint, writeMinHeatSetpointLimit, writeMaxHeatSetpointLimit, writeMinCoolSetpointLimit, writeMaxCoolSetpointLimit, writeSystemMode, setControlSequenceOfOperation, armClock}
+use Rattle.model.specs.RaiseLower.{raiseLowerSetpoint}
 use Rattle.model.specs.Messages.{outOfBandMessage}
 use Rattle.model.specs.Sweep.{seedEvents, sweep, timer, deadline}
 use Rattle.records.specs.declared.Config.{Config}

@@ -1,15 +1,14 @@
--- Document 01, Writes: setpoints, limits, mode, raise/lower; and the plant order in which each ends.
+-- Document 01, Writes: setpoints, limits, mode; and the plant order in which each ends. Raise/lower is RaiseLower's.
 use mathlib.Core.Bool.{Bool, true, false, not, _&&_, _||_, cond}
 use mathlib.Core.List.{List, [], _∷_, _++_}
 use Prim.Native.Nat.{ℕ}
-use lib.Dec.{eqb, ltb}
-use Rattle.units.specs.Units.{plus, minus, above, below, within, widened, raised, saturatedDifference}
+use lib.Dec.{eqb}
+use Rattle.units.specs.Units.{plus, minus, above, below, within, widened, saturatedDifference}
 use Rattle.units.specs.declared.Hundredths.{Hundredths}
-use Rattle.units.specs.declared.Tenths.{Tenths}
 use Rattle.records.specs.Records.{withAttrs, withChange, changedTo, setHeating, setCooling, setMinHeat, setMaxHeat, setMinCool, setMaxCool, setMode}
 use Rattle.model.specs.Answers.{Outcome, Stage, onlyIf, quiet, andThen, unchanged}
 use Rattle.model.specs.Refusals.{Row, row, unless}
-use Rattle.model.specs.Served.{heats, cools, auto, serves, noticed}
+use Rattle.model.specs.Served.{auto, serves, noticed}
 use Rattle.model.specs.Units.{deadBand}
 use Rattle.model.specs.Limits.{minHeatSetpoint, maxHeatSetpoint, minCoolSetpoint, maxCoolSetpoint, inHeatLimits, inCoolLimits, clampHeatSetpoint, clampCoolSetpoint}
 use Rattle.model.specs.Modes.{isSupportedSystemMode, runningState}
@@ -186,38 +185,6 @@ writeSystemMode cfg r d v =
 -- accepts and changes nothing
 unfoldable pub setControlSequenceOfOperation : Config → Controller → ℕ → Outcome
 setControlSequenceOfOperation cfg r v = unless (unsound cfg r ∷ []) r (quiet 0 r)
-
--- raise/lower of one side: adds the signed amount times ten, clamps and stores
-unfoldable pub raiseHeating : Config → Readings → Tenths → Controller → Stage
-raiseHeating cfg d amount r =
-    let s = r .attrs .settings in
-    storeHeatingSetpoint cfg d external (raised (s .heating) amount (minHeatSetpoint cfg s) (maxHeatSetpoint cfg s)) r
-
-unfoldable pub raiseCooling : Config → Readings → Tenths → Controller → Stage
-raiseCooling cfg d amount r =
-    let s = r .attrs .settings in
-    storeCoolingSetpoint cfg d external (raised (s .cooling) amount (minCoolSetpoint cfg s) (maxCoolSetpoint cfg s)) r
-
--- the base rule of Both: heating first, then cooling from what heating left; an absent side is passed over
-unfoldable pub raiseBoth : Config → Readings → Tenths → Controller → Stage
-raiseBoth cfg d amount r =
-    andThen (cond (heats cfg) (raiseHeating cfg d amount r) (unchanged r))
-    (λ (q : Controller). cond (cools cfg) (raiseCooling cfg d amount q) (unchanged q))
-
--- Heat 0, Cool 1, Both 2
-unfoldable pub raiseSides : Config → Readings → ℕ → Tenths → Controller → Stage
-raiseSides cfg d mode amount r = cond (eqb mode 0) (raiseHeating cfg d amount r) (cond (eqb mode 1) (raiseCooling cfg d amount r) (raiseBoth cfg d amount r))
-
--- it names a side that the features lack
-unfoldable pub namesAbsentSide : Config → ℕ → Bool
-namesAbsentSide cfg mode = (eqb mode 0 && not (heats cfg)) || (eqb mode 1 && not (cools cfg))
-
--- raise/lower arms first, so 25 and 23 keep the newly armed clock
-unfoldable pub raiseLowerSetpoint : Config → Controller → Readings → ℕ → Tenths → Outcome
-raiseLowerSetpoint cfg r d mode amount =
-    let a = armedClock cfg d r in
-    unless (unsound cfg r ∷ []) r
-    (unless (row 25 (ltb 2 mode) ∷ row 23 (namesAbsentSide cfg mode) ∷ []) a (applied cfg d (raiseSides cfg d mode amount a)))
 
 -- arming, as a call
 unfoldable pub armClock : Config → Controller → Readings → Outcome

@@ -1,7 +1,7 @@
-// model/specs/Writes: raise/lower.
+// model/specs/RaiseLower: raise/lower.
 ghost use mathlib.Core.Path.{_≡_};
 ghost use Rattle.model.specs.Answers.{answer};
-ghost use Rattle.model.specs.Writes as spec;
+ghost use Rattle.model.specs.RaiseLower as spec;
 use records::Answer;
 use records::Config;
 use records::Controller;

@@ -1,9 +1,9 @@
-// model/specs/Writes: the sides that raise/lower moves.
+// model/specs/RaiseLower: the sides that raise/lower moves.
+mod raise_both;
+
 ghost use mathlib.Core.Path.{_≡_};
-ghost use mathlib.Core.Bool.{cond};
 ghost use Rattle.units.specs.Units.{raised};
-ghost use Rattle.model.specs.Answers.{unchanged};
-ghost use Rattle.model.specs.Writes as spec;
+ghost use Rattle.model.specs.RaiseLower as spec;
 ghost use Rattle.stages.specs.Stages.{staged};
 use records::Config;
 use records::Controller;
@@ -48,50 +48,6 @@ fn raise_cooling(cfg: Config, r: Controller, n: Notices, d: Readings, amount: Te
     stores::store_cooling_setpoint(cfg, r, n, d, change_source::EXTERNAL, v)
 }
 
-fn raise_heating_if(
-    t: bool,
-    cfg: Config,
-    r: Controller,
-    n: Notices,
-    d: Readings,
-    amount: Tenths,
-) -> Stage
-    ensures { λ q. ⌜ q ≡ staged n (cond t (spec.raiseHeating cfg d amount r) (unchanged r)) ⌝ }
-{
-    if t {
-        return raise_heating(cfg, r, n, d, amount);
-    }
-    Stage { rec: r, notices: n }
-}
-
-fn raise_cooling_if(
-    t: bool,
-    cfg: Config,
-    r: Controller,
-    n: Notices,
-    d: Readings,
-    amount: Tenths,
-) -> Stage
-    ensures { λ q. ⌜ q ≡ staged n (cond t (spec.raiseCooling cfg d amount r) (unchanged r)) ⌝ }
-{
-    if t {
-        return raise_cooling(cfg, r, n, d, amount);
-    }
-    Stage { rec: r, notices: n }
-}
-
-// Heating first, then cooling from what heating left.
-fn raise_both(cfg: Config, r: Controller, n: Notices, d: Readings, amount: Tenths) -> Stage
-    ensures { λ q. ⌜ q ≡ staged n (spec.raiseBoth cfg d amount r) ⌝ }
-{
-    let heats = features::heats(cfg);
-    let cools = features::cools(cfg);
-    let h = raise_heating_if(heats, cfg, r, n, d, amount);
-    let q = h.rec;
-    let m = h.notices;
-    raise_cooling_if(cools, cfg, q, m, d, amount)
-}
-
 // Heat 0, Cool 1, Both 2.
 pub fn raise_sides(
     cfg: Config,
@@ -109,5 +65,5 @@ pub fn raise_sides(
     if mode == raise_lower_mode::COOL {
         return raise_cooling(cfg, r, n, d, amount);
     }
-    raise_both(cfg, r, n, d, amount)
+    raise_both::raise_both(cfg, r, n, d, amount)
 }

@@ -11,7 +11,7 @@ use records::attribute_id;
 use stages::Stage;
 use units::Hundredths;
 
-fn record_if(
+pub fn record_if(
     moved: bool,
     d: Readings,
     source: u8,

@@ -1,4 +1,4 @@
-use Rattle.model.specs.Writes.{namesAbsentSide}
+use Rattle.model.specs.RaiseLower.{namesAbsentSide}
 use Rattle.raise_lower.proofs.names_absent_side.Statement.{statement}
 use Rattle.raise_lower.proofs.names_absent_side.Tie as tie
 

@@ -6,7 +6,7 @@ use Rattle.stages.specs.Stages.{staged}
 use Rattle.stages.proofs.Ended.{ended}
 use Rattle.records.specs.declared.Controller.{Controller}
 use Rattle.model.specs.Refusals.{unless}
-use Rattle.model.specs.Writes.{raiseLowerSetpoint, raiseSides}
+use Rattle.model.specs.RaiseLower.{raiseLowerSetpoint, raiseSides}
 use Rattle.raise_lower.proofs.raise_lower_setpoint.Statement.{statement}
 use Rattle.raise_lower.proofs.raise_lower_setpoint.Tie as tie
 

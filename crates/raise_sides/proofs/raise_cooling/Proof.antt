@@ -1,4 +1,4 @@
-use Rattle.model.specs.Writes.{raiseCooling}
+use Rattle.model.specs.RaiseLower.{raiseCooling}
 use Rattle.raise_sides.proofs.raise_cooling.Statement.{statement}
 use Rattle.raise_sides.proofs.raise_cooling.Tie as tie
 

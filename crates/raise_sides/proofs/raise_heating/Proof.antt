@@ -1,4 +1,4 @@
-use Rattle.model.specs.Writes.{raiseHeating}
+use Rattle.model.specs.RaiseLower.{raiseHeating}
 use Rattle.raise_sides.proofs.raise_heating.Statement.{statement}
 use Rattle.raise_sides.proofs.raise_heating.Tie as tie
 

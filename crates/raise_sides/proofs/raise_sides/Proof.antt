@@ -1,5 +1,5 @@
 use borrow.Author.Tests.{ne-eqb, eq-eqb}
-use Rattle.model.specs.Writes.{raiseSides}
+use Rattle.model.specs.RaiseLower.{raiseSides}
 use Rattle.raise_sides.proofs.raise_sides.Statement.{statement}
 use Rattle.raise_sides.proofs.raise_sides.Tie as tie
 
