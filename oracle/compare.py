@@ -3,8 +3,9 @@
 
     python3 oracle/compare.py [CALLS [SEED [CONSOLE [ORACLE]]]]    1,000,000 calls, seed 1; about two minutes
     python3 oracle/compare.py --repair [CALLS [SEED ..]]           openings and limits messages alone, at repair's edges
+    python3 oracle/compare.py --both [CALLS [SEED ..]]             raise/lower of both sides alone, at the edges of limits and gap
     python3 oracle/compare.py --replay CALLS OUTDIR                lines in OUTDIR/stdin, the Rust's answers in OUTDIR/stdout,
-                                                                   C-20's case marked and with cooling's amount
+                                                                   but the port's where C-14 or C-20 sets them apart, marked
 
 The paths are target/bin/console and oracle/target/release/oracle if none are given.
 
@@ -12,10 +13,11 @@ It draws configurations (their numbers from the oracle's table), records, readin
 not, and goes on until CALLS of them lie in document 01's domain. In turn with these come lists that are run through completely
 (SHORT LISTS below), as far as CALLS reaches. The same SEED gives the same lines.
 
-A difference is listed only where a rule of `Judge` says so: for the paper's rows 20, 24, 26, 27 and 28, and for C-20. This program
-works out for itself where they are due. At a row the console must give exactly that number and the record as it was; where both
-setpoints moved, cooling's amount and all else as the Rust. Any other difference, and a row or amount that is due and does not come,
-is unlisted: the first of these are cut down and printed, and the exit code is 1.
+A difference is listed only where a rule of `Judge` says so: for the paper's rows 20, 24, 26, 27 and 28, and for C-14 and C-20. This
+program works out for itself where they are due. At a row the console must give exactly that number and the record as it was; where both
+setpoints moved, cooling's amount and all else as the Rust. To Both it must answer as raise_both.py does; with AUTO the Rust may answer
+otherwise, and goes on with the console's record. Any other difference, and a row or amount that is due and does not come, is unlisted:
+the first of these are cut down and printed, and the exit code is 1.
 Python's standard library is all it needs.
 """
 
@@ -29,6 +31,8 @@ import subprocess
 import sys
 import tempfile
 import time
+
+from raise_both import is_both, raise_both
 
 ROOT = pathlib.Path(__file__).resolve().parent.parent
 BATCH = 20000  # lines for one run of the two programs
@@ -205,12 +209,20 @@ def moved_both(config, words, state):
     return [str(max(-32768, min(32767, difference))) for difference in moved] if all(moved) else None
 
 
+# --- C-14
+
+def goes_apart(config, words):
+    """Whether the Rust may answer this call otherwise: only with AUTO does a store move the other side."""
+    return config.auto and is_both(words)
+
+
 # --- The rules
 
 BOTH, CONSOLE_ALONE, UNREADABLE = range(3)  # how a line is meant
 
-BOTH_MOVED, BOTH_HAD_MOVED = "both moved", "both had moved"
+BOTH_MOVED, BOTH_HAD_MOVED, BOTH_RAISED = "both moved", "both had moved", "both raised"
 LISTED = {
+    BOTH_RAISED: "DIFFERENCES 9: C-14, Both with AUTO",
     BOTH_MOVED: "DIFFERENCES 8: C-20, both setpoints moved",
     BOTH_HAD_MOVED: "DIFFERENCES 8: C-20's amount still stands",
     20: "DIFFERENCES 1: row 20, the Rust's subtraction leaves 16 bits",
@@ -229,7 +241,7 @@ class Counts:
 
     def domain(self):
         """Calls in document 01's domain: all but those answered 24, 27 or 28 and those whose values the Rust's types lack."""
-        return self.compared + sum(sum(self.listed[LISTED[row]].values()) for row in (20, 26, BOTH_MOVED, BOTH_HAD_MOVED))
+        return self.compared + sum(sum(self.listed[LISTED[row]].values()) for row in (20, 26, BOTH_MOVED, BOTH_HAD_MOVED, BOTH_RAISED))
 
 
 class Judge:
@@ -272,7 +284,10 @@ class Judge:
         if self.lost:
             self.counts.left_out["after an unlisted difference"] += 1
             return None
-        return self.call(words, how, before, ours, theirs)
+        why = self.call(words, how, before, ours, theirs)
+        if goes_apart(self.config, words):
+            self.lend(*state_of(record_of(self.state).split(" ")))
+        return why
 
     def opening(self, words, ours, theirs):
         self.lend(self.state, int(words[7]) in MODES)
@@ -298,10 +313,14 @@ class Judge:
                 return "row 26 is due, and the Rust does not just leave the record as it was"
             self.level &= row == 26 or how == CONSOLE_ALONE
             return self.list(row, outcome(theirs), reason)
+        if is_both(words) and ours != raise_both(self.config, words, before):
+            return "C-14's answer is due"
         if not self.held:
             return self.leave_out("record", theirs)
         if not self.level:
             return "compare.py asks on after a listed difference"
+        if goes_apart(self.config, words):
+            return self.list(BOTH_RAISED, "answers the same" if ours == theirs else "answers otherwise")
         lacking = {"mode": (MODES, 22), "sequence": (SEQUENCES, 0)}.get(words[0])
         if lacking and int(words[1]) not in lacking[0]:
             if ours != f"{lacking[1]} {before} {NOTHING}":
@@ -358,31 +377,46 @@ class Pair:
 
     def ask(self, items):
         """Both programs' answers to lines, each with how it is meant: for each a pair, of none where no answer is due."""
-        running = []
-        for alone, program in zip((True, False), self.programs):
-            lines = (line if alone or how != CONSOLE_ALONE else "#" for line, how in items)
-            path = self.folder / str(alone)
-            path.write_bytes("".join(line + "\n" for line in lines).encode("latin-1"))
-            with open(path, "rb") as stdin, open(path.with_suffix(".out"), "wb") as stdout:
-                running.append(subprocess.Popen([program], stdin=stdin, stdout=stdout))
-        answers = []
-        for alone, process in zip((True, False), running):
-            code = process.wait()
-            lines = (self.folder / str(alone)).with_suffix(".out").read_bytes().decode("latin-1").split("\n")
-            due = [line for line, how in items if answered(line) and (alone or how != CONSOLE_ALONE)]
-            if lines.pop() or code or len(lines) != len(due):
-                at = (due + ["the end"])[min(len(lines), len(due))]
-                sys.exit(f"{process.args[0]}: exit {code}, {len(lines)} answers where {len(due)} are due, as far as: {at}")
-            answers.append(iter(lines))
-        for line, how in items:
-            if answered(line):
-                yield next(answers[0]), None if how == CONSOLE_ALONE else next(answers[1])
-            else:
-                yield None, None
+        ours = self.answers(self.programs[0], [line for line, _ in items])
+        asked = []  # of the Rust, each with whether its answer counts: behind Both with AUTO it gets the console's record
+        config = Config([0] * 5, [0] * 7)
+        for (line, how), answer in zip(items, ours):
+            asked.append((line if how != CONSOLE_ALONE else "#", True))
+            words = line.split(" ")
+            if how == BOTH and words[0] == "config":
+                config = Config.read(words)
+            if how == BOTH and goes_apart(config, words) and (done := ANSWER.fullmatch(answer)):
+                asked.append((record_of(done[2]), False))
+        theirs = self.answers(self.programs[1], [line for line, _ in asked])
+        return zip(ours, counted(asked, theirs))
+
+    def answers(self, program, lines):
+        """A program's answer to each line, or none where none is due."""
+        path = self.folder / "lines"
+        path.write_bytes("".join(line + "\n" for line in lines).encode("latin-1"))
+        with open(path, "rb") as stdin:
+            done = subprocess.run([program], stdin=stdin, stdout=subprocess.PIPE)
+        told = done.stdout.decode("latin-1").split("\n")
+        due = list(filter(answered, lines))
+        if told.pop() or done.returncode or len(told) != len(due):
+            at = (due + ["the end"])[min(len(told), len(due))]
+            sys.exit(f"{program}: exit {done.returncode}, {len(told)} answers where {len(due)} are due, as far as: {at}")
+        told = iter(told)
+        return [next(told) if answered(line) else None for line in lines]
 
 
 def answered(line):
     return line != "" and line[0] != "#"
+
+
+def counted(asked, answers):
+    """The answers that count. Those to an unreadable line have its number, without the lines whose answers do not."""
+    more = 0
+    for (_, counts), answer in zip(asked, answers):
+        more += not counts
+        if counts:
+            unreadable = re.fullmatch(r"error (\d+)", answer or "")
+            yield f"error {int(unreadable[1]) - more}" if unreadable else answer
 
 
 Complaint = collections.namedtuple("Complaint", "why lines longer ours theirs")
@@ -828,10 +862,24 @@ def repair_script(draw, table):
             yield "ooblimits " + " ".join(map(str, beside([*config.limits, *settings], 4))), BOTH
 
 
-def repair_scripts(seed, table):
+def both_script(draw, table):
+    """Both alone, on records with and without a gap, by amounts that just reach a limit or do not."""
+    config = good_config(draw, table)
+    yield config.line, BOTH
+    for _ in range(20):
+        record = Record(draw, config)
+        yield record.line(), BOTH
+        steps = [(point - side) // 10 + step for point in record.points for side in record.settings[:2] for step in (0, 1)]
+        for _ in range(draw.of(1, 1, 2, 3)):
+            amount = draw.of(-128, 127, 0, 0, 1, -1, draw.below(256) - 128, draw.of(*steps), draw.of(*steps))
+            line = f"raise 2 {max(-128, min(127, amount))}"
+            yield line + readings(draw, line, draw.relays(), ["-"], 0), BOTH
+
+
+def scripts_of(script, seed, table):
     draw = Draw(seed)
     while True:
-        yield list(repair_script(draw, table))
+        yield list(script(draw, table))
 
 
 def drawn_scripts(seed, table):
@@ -1002,7 +1050,9 @@ def compare(arguments):
     def scripts():
         nonlocal complete
         if arguments.repair:
-            yield from repair_scripts(arguments.seed, table)
+            yield from scripts_of(repair_script, arguments.seed, table)
+        if arguments.both:
+            yield from scripts_of(both_script, arguments.seed, table)
         drawn = drawn_scripts(arguments.seed, table)
         for script in short_lists(table):
             yield script
@@ -1026,7 +1076,8 @@ def compare(arguments):
         print(f"  {name:<64}{count:>9}{more}")
 
     print(f"seed {arguments.seed}, table of {len(table)} rows, {counts.lines} lines answered, {time.monotonic() - started:.0f} s")
-    print("  openings and limits messages alone" if arguments.repair else f"  short lists {'complete' if complete else 'cut short'}")
+    alone = "openings and limits messages alone" * arguments.repair or "Both alone" * arguments.both
+    print("  " + (alone or f"short lists {'complete' if complete else 'cut short'}"))
     row("calls", counts.calls)
     row("of them in document 01's domain", counts.domain())
     print("lines by kind")
@@ -1082,7 +1133,7 @@ def signature(config, line, before, answer):
 
 
 def replay_scripts(seed, table):
-    """Configurations for each of rows 0 to 21, the calls of the short lists in a row, chains, then records."""
+    """Configurations for each of rows 0 to 21, the calls of the short lists in a row, Both, chains, then records."""
     rows = collections.defaultdict(list)
     for config in all_configs(table):
         rows[config.row].append(config)
@@ -1091,6 +1142,7 @@ def replay_scripts(seed, table):
             yield [(config.line, BOTH), (OPENING, BOTH)]
     calls = LIST_CALLS.strip().replace("\n", "; ").split("; ")
     yield [(line, BOTH) for line in (plain(table[0]).line, OPENING, *calls, *reversed(calls))]
+    yield from itertools.islice(scripts_of(both_script, seed, table), 10)
     draw = Draw(seed)
     for _ in range(25):
         yield list(chain_script(draw, table))[:70]
@@ -1113,29 +1165,36 @@ def shown_anew(config, part, seen):
     return keep
 
 
-def where_both_moved(lines, answers):
-    """Each line with its answer and, where it is a sweep that finds both setpoints moved, cooling's amount."""
+def port_answers(lines, answers):
+    """Each line with the Rust's answer, the port's, and the request that sets them apart, if one does."""
     config, state = None, BLANK
     for line, answer in zip(lines, answers):
         words = line.split(" ")
-        heating, cooling = moved_both(config, words, state) or (None, None)
-        if heating and heating != amount_of(answer):
-            sys.exit("both setpoints moved, and the Rust does not record heating's amount: " + answer)
-        yield line, answer, cooling
         if words[0] == "config":
             config = Config.read(words)
+            yield line, answer, answer, None
+            continue
+        if moved := moved_both(config, words, state):
+            if moved[0] != amount_of(answer):
+                sys.exit("both setpoints moved, and the Rust does not record heating's amount: " + answer)
+            yield line, answer, with_amount(answer, moved[1]), "C-20"
+        elif goes_apart(config, words) and (raised := raise_both(config, words, state)) != answer:
+            yield line, answer, raised, "C-14"
         else:
-            state = state_of(words)[0] if words[0] == "record" else ANSWER.fullmatch(answer)[2]
+            yield line, answer, answer, None
+        state = state_of(words)[0] if words[0] == "record" else ANSWER.fullmatch(answer)[2]
 
 
 def marked(lines, answers):
-    """The lines, with C-20's case named before its call and the record lent anew behind it, so that all later answers are the Rust's."""
-    for line, answer, amount in where_both_moved(lines, answers):
-        if amount:
-            yield f"# C-20, both setpoints moved: amt={amount}, the Rust amt={amount_of(answer)}"
+    """The lines; where a request sets the answers apart, its name before the call and the Rust's record behind it, so that all later
+    answers are the Rust's."""
+    for line, answer, _, request in port_answers(lines, answers):
+        if request:
+            numbers = re.match(r"\d+ (h=\S+ c=\S+) .*( amt=\S+)", answer)
+            yield f"# {request}, the Rust {numbers[1]}{numbers[2]}"
         yield line
-        if amount:
-            yield record_of(with_amount(ANSWER.fullmatch(answer)[2], amount))
+        if request:
+            yield record_of(ANSWER.fullmatch(answer)[2])
 
 
 def answers_of(program, path):
@@ -1163,20 +1222,20 @@ def replay(arguments):
     stored = list(marked(kept, told))
     (folder / "stdin").write_text("".join(line + "\n" for line in stored))
     asked = list(filter(answered, stored))
-    cases = list(where_both_moved(asked, answers_of(arguments.oracle, folder / "stdin")))
-    due = [with_amount(answer, amount) if amount else answer for _, answer, amount in cases]
-    (folder / "stdout").write_text("".join(answer + "\n" for answer in due))
-    first, last = ([with_amount(answer, "") for answer in answers if answer != "ok"] for answers in (told, due))
-    if first != last:
+    cases = list(port_answers(asked, answers_of(arguments.oracle, folder / "stdin")))
+    (folder / "stdout").write_text("".join(due + "\n" for _, _, due, _ in cases))
+    again = [answer for _, answer, _, _ in cases if answer != "ok"]
+    if again != [answer for answer in told if answer != "ok"]:
         sys.exit("the Rust answers otherwise than in its first run")
-    numbers = collections.Counter(int(answer.split(" ")[0]) for answer in last)
+    numbers = collections.Counter(int(answer.split(" ")[0]) for answer in again)
     kinds = collections.Counter(line.split(" ")[0] for line in kept)
-    both = sum(bool(amount) for *_, amount in cases)
+    requests = collections.Counter(request for *_, request in cases if request)
     size = sum((folder / name).stat().st_size for name in ("stdin", "stdout"))
-    print(f"{len(last)} calls, {both} of them with both setpoints moved, {len(asked)} lines, {size} bytes")
+    print(f"{len(again)} calls, {len(asked)} lines, {size} bytes")
+    print("with the port's answer:", ", ".join(f"{name} {count}" for name, count in sorted(requests.items())))
     print("by kind:", ", ".join(f"{name} {count}" for name, count in sorted(kinds.items())))
     print("by answer:", ", ".join(f"{name}: {count}" for name, count in sorted(numbers.items())))
-    if set(numbers) != {*range(24), 25} or set(kinds) != {"config", "record", "open", *KINDS} or not both:
+    if set(numbers) != {*range(24), 25} or set(kinds) != {"config", "record", "open", *KINDS} or len(requests) < 2:
         sys.exit("some kind of call, or answer, is not in it")
     return 0
 
@@ -1188,6 +1247,7 @@ def main():
     parser.add_argument("console", nargs="?", default=str(ROOT / "target/bin/console"))
     parser.add_argument("oracle", nargs="?", default=str(ROOT / "oracle/target/release/oracle"))
     parser.add_argument("--repair", action="store_true")
+    parser.add_argument("--both", action="store_true")
     parser.add_argument("--replay", nargs=2, metavar=("CALLS", "OUTDIR"))
     arguments = parser.parse_args()
     return replay(arguments) if arguments.replay else compare(arguments)
