@@ -53,7 +53,7 @@ module _ (cfg : Config) (v : Valid cfg) (r : Controller) (g : Good cfg r) (a : T
   targets-gap u =
       rw (v .auto-heats u)
       (rw (v .auto-cools u)
-      (clamps-apart (s .heating .0) (s .cooling .0) (inHundredths a .0) (deadBand cfg .0) (minHeatSetpoint cfg s .0) (maxHeatSetpoint cfg s .0) (minCoolSetpoint cfg s .0) (maxCoolSetpoint cfg s .0) (chain .cool) (chain .low u) (chain .high u) (k u)))
+      (clamps-apart (s .heating .0) (s .cooling .0) _ (deadBand cfg .0) (minHeatSetpoint cfg s .0) (maxHeatSetpoint cfg s .0) (minCoolSetpoint cfg s .0) (maxCoolSetpoint cfg s .0) (chain .cool) (chain .low u) (chain .high u) (k u)))
 
 not-below : (c h d : Hundredths) → (h .0 +ℤ d .0) ≤ℤ c .0 → below c (plus h d) ≡ false
 unfolding below plus

@@ -3,7 +3,7 @@ use mathlib.Core.Path.{_≡_}
 use mathlib.Core.Bool.{true, cond}
 use mathlib.Core.List.{_++_}
 use lib.IntN.{_+ℤ_}
-use Rattle.units.specs.Units.{raised, inHundredths, within, hundredths}
+use Rattle.units.specs.Units.{raised, inHundredths, hundredths}
 use Rattle.units.specs.declared.Hundredths.{Hundredths}
 use Rattle.units.specs.declared.Tenths.{Tenths}
 use Rattle.records.specs.Records.{withAttrs, withChange, changedTo, setHeating, setCooling}
