@@ -319,8 +319,9 @@ class Judge:
             return self.leave_out("record", theirs)
         if not self.level:
             return "compare.py asks on after a listed difference"
-        if goes_apart(self.config, words):
-            return self.list(BOTH_RAISED, "answers the same" if ours == theirs else "answers otherwise")
+        if goes_apart(self.config, words) and not theirs.startswith("?"):
+            amount = amount_of(before) if amount_of(theirs) == self.rusts else amount_of(theirs)  # C-20's may still stand
+            return self.list(BOTH_RAISED, "answers the same" if ours == with_amount(theirs, amount) else "answers otherwise")
         lacking = {"mode": (MODES, 22), "sequence": (SEQUENCES, 0)}.get(words[0])
         if lacking and int(words[1]) not in lacking[0]:
             if ours != f"{lacking[1]} {before} {NOTHING}":

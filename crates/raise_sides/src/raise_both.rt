@@ -67,14 +67,7 @@ pub(crate) fn raise_both(
     let gave_way = !units::same(h, kept);
     t.heating = kept;
     let old = r.change;
-    let first = stores::record_if(
-        heating_moved,
-        d,
-        change_source::EXTERNAL,
-        s.heating,
-        h,
-        old,
-    );
+    let first = stores::record_if(heating_moved, d, change_source::EXTERNAL, s.heating, h, old);
     let mut q = r;
     q.attrs = attrs::update_attrs(b, t);
     q.change = stores::record_if(
