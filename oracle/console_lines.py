@@ -218,7 +218,7 @@ def taken_as_written():
 def in_pieces():
     """The same answers, however the input is cut up."""
     plant = b"# plant\nconfig 11 547 1972525402030201 59 1 700 2900 1600 3200 25 4 50\n\n"
-    plant += b"open 2000 2250 700 2900 1600 3200 1\nheat 2100\nx\nraise 2 10\n"
+    plant += b"open 2000 2250 700 2900 1600 3200 1\nheat 2100\nx\nraise 0 10\n"
     data = plant * 400 + b"heat 2000"
     whole = ask(CONSOLE, data)
     check(whole == ask(ORACLE, data), "whole")

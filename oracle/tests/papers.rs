@@ -53,6 +53,7 @@ fn ten_calls() {
         "raise 3 0",
         "raise 1 -128",
     ]);
+    // Line 4 is document 01's: the Rust keeps its rule of Both, where C-14 has 2450.
     let expected = [
         "0 h=2000 c=2250 ",
         "0 h=2100 c=2350 ",

@@ -73,6 +73,7 @@ linesFrom cfg n o (k ∷ ks) = line n o ∷ linesFrom cfg (n + 1) (step cfg (o .
 abbrev entry : ℕ → ℕ → ℕ → ℕ → Line
 entry n a h c = record { call = n; answer = a; heating = pos h; cooling = pos c }
 
+-- document 01's table, with line 4 of C-14
 abbrev pub tenLines : List Line
 tenLines =
     entry 1 0 2000 2250 ∷ entry 2 0 2100 2350 ∷ entry 3 22 2100 2350 ∷ entry 4 0 2200 2450 ∷ entry 5 0 2200 2300 ∷

@@ -31,7 +31,7 @@ coolingTarget cfg s amount = cond (cools cfg) (raised (s .cooling) amount (minCo
 abbrev pub targetsStored : Config → Tenths → Attrs → Attrs
 targetsStored cfg amount a = setCooling (setHeating a (heatingTarget cfg (a .settings) amount)) (coolingTarget cfg (a .settings) amount)
 
--- the gap, applied once: cooling stays and heating gives way
+-- the gap, applied once, and even if no target differs: cooling stays and heating gives way
 abbrev pub heatingAfterGap : Config → Tenths → Attrs → Hundredths
 heatingAfterGap cfg amount a = let t = targetsStored cfg amount a .settings in heatingWithGap cfg t (t .cooling)
 
