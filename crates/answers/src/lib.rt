@@ -1,12 +1,19 @@
-// model/specs/Answers: notices and events as an array and a length.
+// model/specs/Answers and Orders: notices and events as an array and a length; the plant order, and the sweep it asks for.
 ghost use mathlib.Core.Path.{_≡_};
-ghost use Rattle.model.specs.Answers.{onlyIf, push as pushed, pushAll, emit as emitted, emitAll};
-ghost use Rattle.model.specs.Served.{noticed};
+ghost use Rattle.model.specs.Answers.{onlyIf, push as pushed, pushAll, emit as emitted, emitAll, answer, quiet};
+ghost use Rattle.model.specs.Served.{noticed, emitsAny};
+ghost use Rattle.model.specs.Orders.{orderOf, askSweep};
+use records::Answer;
 use records::Config;
+use records::Controller;
 use records::Event;
 use records::EventSlot;
 use records::Events;
+use records::Moment;
 use records::Notices;
+use records::Order;
+use records::Settings;
+use records::pending_mask;
 
 // A full array is left alone. No call gives more than it holds, so nothing is lost: law NothingLost of model.
 fn push(n: Notices, code: u16) -> Notices
@@ -52,4 +59,46 @@ pub fn notify_if(cfg: Config, n: Notices, t: bool, code: u16) -> Notices
         return notify(cfg, n, code);
     }
     n
+}
+
+// A number and a record, and nothing else.
+pub fn quiet_answer(number: u8, r: Controller) -> Answer
+    ensures { λ q. ⌜ q ≡ answer (quiet number r) ⌝ }
+{
+    let n = Notices::none();
+    let e = Events::none();
+    Answer {
+        number: number,
+        rec: r,
+        order: Order::NoOrder,
+        notices: n,
+        events: e,
+        deadline: Moment::Never,
+    }
+}
+
+pub fn order_of(s: Settings) -> Order
+    ensures { λ r. ⌜ r ≡ orderOf s ⌝ }
+{
+    let h = s.heating;
+    let c = s.cooling;
+    Order::Apply(s.mode, h, c)
+}
+
+fn emits_any(cfg: Config) -> bool
+    ensures { λ r. ⌜ r ≡ emitsAny cfg ⌝ }
+{
+    cfg.events != 0
+}
+
+// Bit 9, if any event is served.
+pub fn ask_sweep(cfg: Config, r: Controller) -> Controller
+    ensures { λ q. ⌜ q ≡ askSweep cfg r ⌝ }
+{
+    if emits_any(cfg) {
+        let mut q = r;
+        q.pending = r.pending | pending_mask::EVENT_SWEEP;
+        return q;
+    }
+    r
 }

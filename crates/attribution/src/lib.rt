@@ -1,7 +1,9 @@
-// model/specs/Attribution: recording and arming.
+// model/specs/Attribution: recording, arming, and the claimed pair.
 ghost use mathlib.Core.Path.{_≡_};
+ghost use mathlib.Core.Bool.{cond};
+ghost use Rattle.records.specs.Records.{zeroHundredths};
 ghost use Rattle.records.specs.declared.Second.the-variants.{NoSecond};
-ghost use Rattle.model.specs.Attribution.{stamp as stampOf, recorded, withAttributed, withArmed, armedClock};
+ghost use Rattle.model.specs.Attribution.{stamp as stampOf, recorded, withAttributed, withArmed, armedClock, servedSetpoints, claimSetpoints};
 use records::Amount;
 use records::Attributed;
 use records::Config;
@@ -9,6 +11,7 @@ use records::Controller;
 use records::Readings;
 use records::Second;
 use records::SetpointChangeState;
+use records::Settings;
 use records::attribute_id;
 use units::Hundredths;
 
@@ -85,12 +88,41 @@ pub fn arm_clock(cfg: Config, d: Readings, r: Controller) -> Controller
     ensures { λ q. ⌜ q ≡ armedClock cfg d r ⌝ }
 {
     if served::serves(cfg, attribute_id::SETPOINT_CHANGE_SOURCE_TIMESTAMP) {
-        let c = r.change;
+        let change = r.change;
         let node = d.node;
-        let a = arm(c, node);
+        let a = arm(change, node);
         let mut q = r;
         q.change = a;
         return q;
     }
     r
+}
+
+fn side_or_zero(t: bool, v: Hundredths) -> Hundredths
+    ensures { λ r. ⌜ r ≡ cond t v zeroHundredths ⌝ }
+{
+    if t {
+        return v;
+    }
+    Hundredths::ZERO
+}
+
+// An unserved side counts 0.
+pub fn served_setpoints(cfg: Config, s: Settings) -> Attributed
+    ensures { λ r. ⌜ r ≡ servedSetpoints cfg s ⌝ }
+{
+    let h = side_or_zero(served::heats(cfg), s.heating);
+    let c = side_or_zero(served::cools(cfg), s.cooling);
+    Attributed::Claimed(h, c)
+}
+
+pub fn claim_setpoints(cfg: Config, r: Controller) -> Controller
+    ensures { λ q. ⌜ q ≡ claimSetpoints cfg r ⌝ }
+{
+    let pair = served_setpoints(cfg, r.attrs.settings);
+    let c = r.change;
+    let a = attribute(c, pair);
+    let mut q = r;
+    q.change = a;
+    q
 }

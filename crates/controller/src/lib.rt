@@ -1,71 +1,55 @@
-// One step, by cases on the call. What runs here is what the theorem of model speaks of.
+// model/specs/Step: one step, by cases on the call. What runs here is what the theorem of crate claims speaks of.
 ghost use mathlib.Core.Path.{_≡_};
+ghost use mathlib.Core.Bool.{true};
 ghost use Rattle.model.specs.Answers.{answer};
-ghost use Rattle.model.specs.Step.{step as stepOf};
+ghost use Rattle.model.specs.Plans.{planned};
+ghost use Rattle.model.specs.Sound.{sound as soundOf};
+ghost use Rattle.model.specs.Step.{step as stepOf, stepSound};
+ghost use Rattle.records.specs.declared.Planned.the-variants.{NoWrite};
 use records::Answer;
 use records::Call;
 use records::Config;
 use records::Controller;
+use records::Planned;
 use records::Readings;
+use records::answer_number;
 
-pub fn step(cfg: Config, rec: Controller, d: Readings, call: Call) -> Answer
-    ensures { λ r. ⌜ r ≡ answer (stepOf cfg rec d call) ⌝ }
+// The calls that are no writes. The last arm serves the control sequence, which accepts every value and changes nothing.
+fn serve(cfg: Config, rec: Controller, d: Readings, call: Call) -> Answer
+    requires { ⌜ (soundOf cfg rec ≡ true) × (planned cfg (rec .attrs .settings) call ≡ NoWrite) ⌝ }
+    ensures { λ q. ⌜ q ≡ answer (stepSound cfg rec d call) ⌝ }
 {
     match call {
-        Call::WriteOccupiedHeatingSetpoint(v) => setpoint_writes::write_occupied_heating_setpoint(
-            cfg,
-            rec,
-            d,
-            v,
+        Call::ArmClock => answers::quiet_answer(
+            answer_number::DONE,
+            attribution::arm_clock(cfg, d, rec),
         ),
-        Call::WriteOccupiedCoolingSetpoint(v) => setpoint_writes::write_occupied_cooling_setpoint(
-            cfg,
-            rec,
-            d,
-            v,
-        ),
-        Call::WriteMinHeatSetpointLimit(v) => heat_limit_writes::write_min_heat_setpoint_limit(
-            cfg,
-            rec,
-            d,
-            v,
-        ),
-        Call::WriteMaxHeatSetpointLimit(v) => heat_limit_writes::write_max_heat_setpoint_limit(
-            cfg,
-            rec,
-            d,
-            v,
-        ),
-        Call::WriteMinCoolSetpointLimit(v) => cool_limit_writes::write_min_cool_setpoint_limit(
-            cfg,
-            rec,
-            d,
-            v,
-        ),
-        Call::WriteMaxCoolSetpointLimit(v) => cool_limit_writes::write_max_cool_setpoint_limit(
-            cfg,
-            rec,
-            d,
-            v,
-        ),
-        Call::WriteSystemMode(v) => mode_writes::write_system_mode(cfg, rec, d, v),
-        Call::SetControlSequenceOfOperation(v) => mode_writes::set_control_sequence_of_operation(
-            cfg,
-            rec,
-            v,
-        ),
-        Call::RaiseLowerSetpoint(mode, amount) => raise_lower::raise_lower_setpoint(
-            cfg,
-            rec,
-            d,
-            mode,
-            amount,
-        ),
-        Call::ArmClock => arming::arm_clock(cfg, rec, d),
         Call::OutOfBand(m) => messages::out_of_band_message(cfg, rec, m),
-        Call::SeedEvents => timer::seed_events(cfg, rec, d),
+        Call::SeedEvents => sweep::seed_events(cfg, rec, d),
         Call::Sweep => sweep::sweep(cfg, rec, d),
-        Call::Timer => timer::timer(cfg, rec, d),
-        Call::Deadline => deadline::deferred_local_temperature_deadline(cfg, rec, d),
+        Call::Timer => sweep::timer(cfg, rec, d),
+        Call::Deadline => sweep_deadline::deferred_local_temperature_deadline(cfg, rec, d),
+        _ => answers::quiet_answer(answer_number::DONE, rec),
     }
+}
+
+// For a caller that holds its record from an opening on: row 28 is not tested, since the opening and every step keep it.
+pub fn step_sound(cfg: Config, rec: Controller, d: Readings, call: Call) -> Answer
+    requires { ⌜ soundOf cfg rec ≡ true ⌝ }
+    ensures { λ q. ⌜ (q ≡ answer (stepOf cfg rec d call)) × (soundOf cfg (q .rec) ≡ true) ⌝ }
+{
+    match writes_plans::plan(cfg, rec.attrs.settings, call) {
+        Planned::NoWrite => serve(cfg, rec, d, call),
+        Planned::Write(p) => writes::carry_out(cfg, d, rec, p),
+    }
+}
+
+// The public entry: it tests everything, row 28 here and nowhere else.
+pub fn step(cfg: Config, rec: Controller, d: Readings, call: Call) -> Answer
+    ensures { λ q. ⌜ q ≡ answer (stepOf cfg rec d call) ⌝ }
+{
+    if !sound::is_sound(cfg, rec) {
+        return answers::quiet_answer(answer_number::UNSOUND_RECORD, rec);
+    }
+    step_sound(cfg, rec, d, call)
 }

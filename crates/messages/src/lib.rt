@@ -1,45 +1,162 @@
-// model/specs/Messages: out-of-band messages.
+// model/specs/Messages: out-of-band messages. Each takes the settings and gives those it leaves, and the pending bits it sets.
 ghost use mathlib.Core.Path.{_≡_};
-ghost use Rattle.model.specs.Answers.{answer};
+ghost use lib.Bits.{bitOr};
+ghost use Rattle.records.specs.Records.{withPending};
+ghost use Rattle.model.specs.Answers.{answer, quiet};
 ghost use Rattle.model.specs.Messages as spec;
+ghost use Rattle.messages.specs.Taken.{Takes};
 use records::Answer;
+use records::Attrs;
 use records::Config;
 use records::Controller;
+use records::Events;
+use records::Moment;
+use records::Notices;
+use records::Order;
 use records::OutOfBandMessage;
 use records::answer_number;
 use records::pending_mask;
+use units::Hundredths;
 
-pub fn out_of_band_message(cfg: Config, r: Controller, m: OutOfBandMessage) -> Answer
-    ensures { λ q. ⌜ q ≡ answer (spec.outOfBandMessage cfg r m) ⌝ }
+// What a message asks for.
+struct Taken {
+    number: u8,
+    attrs: Attrs,
+    bits: u16,
+    order: Order,
+}
+
+// No plant order.
+fn quiet_taken(number: u8, a: Attrs, bits: u16) -> Taken
+    ensures { λ t. ⌜ Takes a (λ r. quiet number (withPending r (bitOr (r .pending) bits))) t ⌝ }
 {
-    if !sound::is_sound(cfg, r) {
-        return orders::quiet_answer(answer_number::UNSOUND_RECORD, r);
+    let o = Order::NoOrder;
+    Taken {
+        number: number,
+        attrs: a,
+        bits: bits,
+        order: o,
     }
+}
+
+// Every accepted message asks for a sweep too.
+fn take(a: Attrs, bits: u16) -> Taken
+    ensures { λ t. ⌜ Takes a (λ r. quiet 0 (spec.raiseBits r bits)) t ⌝ }
+{
+    quiet_taken(answer_number::DONE, a, bits | pending_mask::EVENT_SWEEP)
+}
+
+fn heating_message(cfg: Config, a: Attrs, v: Hundredths) -> Taken
+    ensures { λ t. ⌜ Takes a (λ r. spec.heatingMessage cfg r v) t ⌝ }
+{
+    let mut s = a.settings;
+    s.heating = limits::clamp_heat_setpoint(cfg, a.settings, units::widen(v));
+    let b = records::update_attrs(a, s);
+    take(b, pending_mask::OCCUPIED_HEATING_SETPOINT)
+}
+
+fn cooling_message(cfg: Config, a: Attrs, v: Hundredths) -> Taken
+    ensures { λ t. ⌜ Takes a (λ r. spec.coolingMessage cfg r v) t ⌝ }
+{
+    let mut s = a.settings;
+    s.cooling = limits::clamp_cool_setpoint(cfg, a.settings, units::widen(v));
+    let b = records::update_attrs(a, s);
+    take(b, pending_mask::OCCUPIED_COOLING_SETPOINT)
+}
+
+fn mode_message(cfg: Config, a: Attrs, v: u8) -> Taken
+    ensures { λ t. ⌜ Takes a (λ r. spec.modeMessage cfg r v) t ⌝ }
+{
+    if !modes::is_supported_system_mode(cfg, v) {
+        return quiet_taken(answer_number::UNSUPPORTED_MODE, a, 0);
+    }
+    let mut s = a.settings;
+    s.mode = v;
+    let b = records::update_attrs(a, s);
+    take(b, pending_mask::SYSTEM_MODE)
+}
+
+// The four limits in one store.
+fn take_limits(
+    cfg: Config,
+    a: Attrs,
+    minh: Hundredths,
+    maxh: Hundredths,
+    minc: Hundredths,
+    maxc: Hundredths,
+) -> Attrs
+    ensures { λ r. ⌜ r ≡ spec.limitsTaken cfg a minh maxh minc maxc ⌝ }
+{
+    let mut s = a.settings;
+    s.minheat = units_ranges::clamp(units::widen(minh), cfg.absminheat, cfg.absmaxheat);
+    s.maxheat = units_ranges::clamp(units::widen(maxh), cfg.absminheat, cfg.absmaxheat);
+    s.mincool = units_ranges::clamp(units::widen(minc), cfg.absmincool, cfg.absmaxcool);
+    s.maxcool = units_ranges::clamp(units::widen(maxc), cfg.absmincool, cfg.absmaxcool);
+    records::update_attrs(a, s)
+}
+
+// The new limits may cut across the setpoints, so the settings are repaired. The message asks for a sweep, whether its plant order does or not.
+fn limits_message(
+    cfg: Config,
+    a: Attrs,
+    minh: Hundredths,
+    maxh: Hundredths,
+    minc: Hundredths,
+    maxc: Hundredths,
+) -> Taken
+    ensures { λ t. ⌜ Takes a (λ r. spec.limitsMessage cfg r minh maxh minc maxc) t ⌝ }
+{
+    let b = repair::repair(cfg, take_limits(cfg, a, minh, maxh, minc, maxc));
+    let o = answers::order_of(b.settings);
+    Taken {
+        number: answer_number::DONE,
+        attrs: b,
+        bits: pending_mask::LIMITS | pending_mask::EVENT_SWEEP,
+        order: o,
+    }
+}
+
+fn take_message(cfg: Config, a: Attrs, m: OutOfBandMessage) -> Taken
+    ensures { λ t. ⌜ Takes a (λ r. spec.outOfBandMessage cfg r m) t ⌝ }
+{
     match m {
-        OutOfBandMessage::LocalTemperature => pending::plain_message(
-            r,
-            pending_mask::LOCAL_TEMPERATURE,
-        ),
-        OutOfBandMessage::RunningState => pending::plain_message(r, pending_mask::RUNNING_STATE),
-        OutOfBandMessage::Update => pending::plain_message(r, pending_mask::UPDATE),
-        OutOfBandMessage::OccupiedHeatingSetpoint(v) => setpoint_messages::heating_message(
+        OutOfBandMessage::LocalTemperature => take(a, pending_mask::LOCAL_TEMPERATURE),
+        OutOfBandMessage::RunningState => take(a, pending_mask::RUNNING_STATE),
+        OutOfBandMessage::Update => take(a, pending_mask::UPDATE),
+        OutOfBandMessage::OccupiedHeatingSetpoint(v) => heating_message(cfg, a, v),
+        OutOfBandMessage::OccupiedCoolingSetpoint(v) => cooling_message(cfg, a, v),
+        OutOfBandMessage::SystemMode(v) => mode_message(cfg, a, v),
+        OutOfBandMessage::SetpointLimits(minh, maxh, minc, maxc) => limits_message(
             cfg,
-            r,
-            v,
-        ),
-        OutOfBandMessage::OccupiedCoolingSetpoint(v) => setpoint_messages::cooling_message(
-            cfg,
-            r,
-            v,
-        ),
-        OutOfBandMessage::SystemMode(v) => setpoint_messages::mode_message(cfg, r, v),
-        OutOfBandMessage::SetpointLimits(minh, maxh, minc, maxc) => limit_messages::limits_message(
-            cfg,
-            r,
+            a,
             minh,
             maxh,
             minc,
             maxc,
         ),
+    }
+}
+
+// The settings go into the record, the bits to those that are pending. A refused message has no bits, and the settings as they were.
+pub fn out_of_band_message(cfg: Config, r: Controller, m: OutOfBandMessage) -> Answer
+    ensures { λ q. ⌜ q ≡ answer (spec.outOfBandMessage cfg r m) ⌝ }
+{
+    let t = take_message(cfg, r.attrs, m);
+    let a = t.attrs;
+    let o = t.order;
+    let before = r.pending;
+    let bits = t.bits;
+    let mut q = r;
+    q.attrs = a;
+    q.pending = before | bits;
+    let n = Notices::none();
+    let e = Events::none();
+    Answer {
+        number: t.number,
+        rec: q,
+        order: o,
+        notices: n,
+        events: e,
+        deadline: Moment::Never,
     }
 }

@@ -11,7 +11,7 @@ use Rattle.units.specs.declared.Tenths.{Tenths}
 use Rattle.model.specs.Answers.{Outcome, Stage, quiet, unchanged}
 use Rattle.model.specs.Refusals.{Row, unless, Clear}
 use Rattle.model.specs.Served.{heats, cools, auto, hasHeatLimits, hasCoolLimits}
-use Rattle.model.specs.Limits.{minHeatSetpoint, maxHeatSetpoint, minCoolSetpoint, maxCoolSetpoint, inHeatLimits, inCoolLimits, clampHeatSetpoint, clampCoolSetpoint}
+use Rattle.model.specs.Limits.{EqualLimits, minHeatSetpoint, maxHeatSetpoint, minCoolSetpoint, maxCoolSetpoint, inHeatLimits, inCoolLimits, clampHeatSetpoint, clampCoolSetpoint}
 use Rattle.model.specs.Attribution.{external, claimSetpoints}
 use Rattle.model.specs.Repair.{repaired}
 use Rattle.model.specs.RepairedSettings.{repairedLimits, repairedSettings}
@@ -23,8 +23,7 @@ use Rattle.records.specs.declared.Settings.{Settings}
 use Rattle.records.specs.declared.Attrs.{Attrs}
 use Rattle.records.specs.declared.Controller.{Controller}
 use Rattle.records.specs.declared.Readings.{Readings}
-use Rattle.model.specs.Claims.{number, EqualLimits}
-use Rattle.model.proofs.Logic.{by-cond, cases, neither, not-both}
+use Rattle.model.proofs.Logic.{by-cond, both-cond, cases, neither, not-both}
 use Rattle.model.proofs.Valid.{Valid}
 use Rattle.model.proofs.Repair.{by-formula}
 
@@ -40,11 +39,7 @@ pub record SamePoints (cfg : Config) (s t : Settings) : Type 0 where
   pub heating : heats cfg ≡ true → s .heating ≡ t .heating
   pub cooling : cools cfg ≡ true → s .cooling ≡ t .cooling
 
--- two picks by the same test, and two guarded outcomes with the same rows
-pub both-cond {ℓ} : {X : Type 0} (R : X → X → Type ℓ) (b : Bool) (x y u w : X) → (b ≡ true → R x u) → (b ≡ false → R y w) → R (cond b x y) (cond b u w)
-both-cond R true x y u w f g = f refl
-both-cond R false x y u w f g = g refl
-
+-- two guarded outcomes with the same rows
 both-guarded : (R : Outcome → Outcome → Type 0) (ws : List Row) (q r : Controller) (o p : Outcome) → ((n : ℕ) → R (quiet n q) (quiet n r)) → (Clear ws → R o p) → R (unless ws q o) (unless ws r p)
 unfolding unless
 both-guarded R [] q r o p f g = g tt

@@ -18,9 +18,9 @@ use Rattle.model.specs.Attribution.{external, armedClock, servedSetpoint
 use Rattle.model.specs.Writes.{applied, thenNoticed, coolingWithGap, heatingWithGap, relayNotices, sourceNotices, storeHeatingSetpoint, storeCoolingSetpoint, pullHeating, pullCooling, writeOccupiedHeatingSetpoint, writeOccupiedCoolingSetpoint, writeMinHeatSetpointLimit, writeMaxHeatSetpointLimit, writeMinCoolSetpointLimit, writeMaxCoolSetpointLimit, writeSystemMode, setControlSequenceOfOperation, armClock}
 use Rattle.model.specs.RaiseBoth.{heatingTarget, coolingTarget, heatingAfterGap, raiseBoth}
 use Rattle.model.specs.RaiseLower.{raiseHeating, raiseCooling, raiseSides, raiseLowerSetpoint}
-use Rattle.model.specs.Messages.{messageTaken, modeMessage, heatingMessage, coolingMessage, limitsMessage, outOfBandMessage}
+use Rattle.model.specs.Messages.{outOfBandMessage, modeMessage, heatingMessage, coolingMessage, limitsMessage}
 use Rattle.model.specs.Sweep.{Taken, started, localRecorded, modeEmitted, temperatureEmitted, coolingEmitted, heatingEmitted, relaysEmitted, runningModeEmitted, sameSnapshot, snapshotOf, noticeTable, rowNotices, tableNotices, attributedTo, attributeLocalSetpointChange, eventsOf, takenFrom, takeEvents, sweepEvents, swept, sweep, timer, seedEvents, deadline}
-use Rattle.model.specs.Step.{step}
+use Rattle.model.specs.Step.{step, stepSound}
 use Rattle.model.specs.Laws.{Bounded, NothingLost}
 use Rattle.records.specs.declared.Config.{Config}
 use Rattle.records.specs.declared.Shadow.{Shadow}
@@ -35,6 +35,7 @@ use Rattle.records.specs.declared.Controller.{Controller}
 use Rattle.records.specs.declared.Readings.{Readings}
 use Rattle.records.specs.declared.OutOfBandMessage.{OutOfBandMessage}
 use Rattle.records.specs.declared.OutOfBandMessage.the-variants.{LocalTemperature, RunningState, Update, OccupiedHeatingSetpoint, OccupiedCoolingSetpoint, SystemMode, SetpointLimits}
+use Rattle.records.specs.declared.Call.{Call}
 use Rattle.records.specs.declared.Call.the-variants.{WriteOccupiedHeatingSetpoint, WriteOccupiedCoolingSetpoint, WriteMinHeatSetpointLimit, WriteMaxHeatSetpointLimit, WriteMinCoolSetpointLimit, WriteMaxCoolSetpointLimit, WriteSystemMode, SetControlSequenceOfOperation, RaiseLowerSetpoint, ArmClock, OutOfBand, SeedEvents, Sweep, Timer, Deadline}
 use Rattle.model.proofs.Logic.{length-onlyIf, by-cond, by-unless}
 use Rattle.model.proofs.Packing.{packed-codes, packed-slots}
@@ -174,7 +175,7 @@ module _ (cfg : Config) (d : Readings) where
       by-cond Within (eqb (r .pending) 0) _ _ (λ e. quiet-bounded 0 r)
       (λ e. by-cond Within (listed (r .pending) 9) _ _ (λ f. (simp length-append (omega arith), taken-most _)) (λ f. (omega arith, omega arith)))
 
-  message-bounded : (r : Controller) (m : OutOfBandMessage) → Within (messageTaken cfg r m)
+  message-bounded : (r : Controller) (m : OutOfBandMessage) → Within (outOfBandMessage cfg r m)
   unfolding heatingMessage coolingMessage modeMessage limitsMessage
   message-bounded r LocalTemperature = (omega arith, omega arith)
   message-bounded r RunningState = (omega arith, omega arith)
@@ -188,24 +189,28 @@ module _ (cfg : Config) (d : Readings) where
   unfolding applied
   mode-bounded s h = (simp length-append (omega (arith, relay-most, notice-most 0x1C)), omega arith)
 
+sound-bounded : (cfg : Config) (r : Controller) (d : Readings) (k : Call) → Within (stepSound cfg r d k)
+unfolding stepSound writeOccupiedHeatingSetpoint writeOccupiedCoolingSetpoint writeMinHeatSetpointLimit writeMaxHeatSetpointLimit writeMinCoolSetpointLimit writeMaxCoolSetpointLimit writeSystemMode setControlSequenceOfOperation raiseLowerSetpoint armClock seedEvents sweep timer deadline
+sound-bounded cfg r d (WriteOccupiedHeatingSetpoint v) = guarded _ r _ (applied-bounded cfg d _ (let m = heating-most cfg d external v r in omega arith))
+sound-bounded cfg r d (WriteOccupiedCoolingSetpoint v) = guarded _ r _ (applied-bounded cfg d _ (let m = cooling-most cfg d external v r in omega arith))
+sound-bounded cfg r d (WriteMinHeatSetpointLimit v) = guarded _ r _ (limit-bounded cfg d (withAttrs r (setMinHeat (r .attrs) v)) 0x15 (pullHeating cfg d) (pull-heat-most cfg d _))
+sound-bounded cfg r d (WriteMaxHeatSetpointLimit v) = guarded _ r _ (limit-bounded cfg d (withAttrs r (setMaxHeat (r .attrs) v)) 0x16 (pullHeating cfg d) (pull-heat-most cfg d _))
+sound-bounded cfg r d (WriteMinCoolSetpointLimit v) = guarded _ r _ (limit-bounded cfg d (withAttrs r (setMinCool (r .attrs) v)) 0x17 (pullCooling cfg d) (pull-cool-most cfg d _))
+sound-bounded cfg r d (WriteMaxCoolSetpointLimit v) = guarded _ r _ (limit-bounded cfg d (withAttrs r (setMaxCool (r .attrs) v)) 0x18 (pullCooling cfg d) (pull-cool-most cfg d _))
+sound-bounded cfg r d (WriteSystemMode v) = guarded _ r _ (mode-bounded cfg d _ (omega arith))
+sound-bounded cfg r d (SetControlSequenceOfOperation v) = quiet-bounded 0 r
+sound-bounded cfg r d (RaiseLowerSetpoint mode amount) =
+    guarded _ _ _ (applied-bounded cfg d _ (let m = sides-most cfg d mode amount (armedClock cfg d r) in omega arith))
+sound-bounded cfg r d ArmClock = quiet-bounded 0 (armedClock cfg d r)
+sound-bounded cfg r d (OutOfBand m) = message-bounded cfg d r m
+sound-bounded cfg r d SeedEvents = quiet-bounded 0 (started cfg d r)
+sound-bounded cfg r d Sweep = guarded _ r _ (swept-bounded cfg d r)
+sound-bounded cfg r d Timer = guarded _ r _ (omega arith, taken-most cfg d r)
+sound-bounded cfg r d Deadline = (omega arith, omega arith)
+
 pub bounded : Bounded
-unfolding step writeOccupiedHeatingSetpoint writeOccupiedCoolingSetpoint writeMinHeatSetpointLimit writeMaxHeatSetpointLimit writeMinCoolSetpointLimit writeMaxCoolSetpointLimit writeSystemMode setControlSequenceOfOperation raiseLowerSetpoint armClock outOfBandMessage seedEvents sweep timer deadline
-bounded cfg r d (WriteOccupiedHeatingSetpoint v) = guarded _ r _ (applied-bounded cfg d _ (let m = heating-most cfg d external v r in omega arith))
-bounded cfg r d (WriteOccupiedCoolingSetpoint v) = guarded _ r _ (applied-bounded cfg d _ (let m = cooling-most cfg d external v r in omega arith))
-bounded cfg r d (WriteMinHeatSetpointLimit v) = guarded _ r _ (limit-bounded cfg d (withAttrs r (setMinHeat (r .attrs) v)) 0x15 (pullHeating cfg d) (pull-heat-most cfg d _))
-bounded cfg r d (WriteMaxHeatSetpointLimit v) = guarded _ r _ (limit-bounded cfg d (withAttrs r (setMaxHeat (r .attrs) v)) 0x16 (pullHeating cfg d) (pull-heat-most cfg d _))
-bounded cfg r d (WriteMinCoolSetpointLimit v) = guarded _ r _ (limit-bounded cfg d (withAttrs r (setMinCool (r .attrs) v)) 0x17 (pullCooling cfg d) (pull-cool-most cfg d _))
-bounded cfg r d (WriteMaxCoolSetpointLimit v) = guarded _ r _ (limit-bounded cfg d (withAttrs r (setMaxCool (r .attrs) v)) 0x18 (pullCooling cfg d) (pull-cool-most cfg d _))
-bounded cfg r d (WriteSystemMode v) = guarded _ r _ (mode-bounded cfg d _ (omega arith))
-bounded cfg r d (SetControlSequenceOfOperation v) = guarded _ r _ (quiet-bounded 0 r)
-bounded cfg r d (RaiseLowerSetpoint mode amount) =
-    guarded _ r _ (guarded _ _ _ (applied-bounded cfg d _ (let m = sides-most cfg d mode amount (armedClock cfg d r) in omega arith)))
-bounded cfg r d ArmClock = guarded _ r _ (quiet-bounded 0 (armedClock cfg d r))
-bounded cfg r d (OutOfBand m) = guarded _ r _ (message-bounded cfg d r m)
-bounded cfg r d SeedEvents = guarded _ r _ (quiet-bounded 0 (started cfg d r))
-bounded cfg r d Sweep = guarded _ r _ (swept-bounded cfg d r)
-bounded cfg r d Timer = guarded _ r _ (omega arith, taken-most cfg d r)
-bounded cfg r d Deadline = guarded _ r _ (omega arith, omega arith)
+unfolding step
+bounded cfg r d k = guarded _ r _ (sound-bounded cfg r d k)
 
 pub nothing-lost : NothingLost
 nothing-lost cfg r d k = let b = bounded cfg r d k in (packed-codes (step cfg r d k .notices) (b .0), packed-slots (step cfg r d k .events) (b .1))

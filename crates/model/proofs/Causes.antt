@@ -10,10 +10,10 @@ use Rattle.model.specs.Refusals.{Row, firstFailing, thenRows, unless, Fi
 use Rattle.model.specs.Validation.{validationRows, featureRows, attributeRows, limitRows, eventRows, numberRows, validated, accepted}
 use Rattle.model.specs.Writes.{applied, writeOccupiedHeatingSetpoint, writeOccupiedCoolingSetpoint, writeMinHeatSetpointLimit, writeMaxHeatSetpointLimit, writeMinCoolSetpointLimit, writeMaxCoolSetpointLimit, writeSystemMode, setControlSequenceOfOperation, armClock}
 use Rattle.model.specs.RaiseLower.{raiseLowerSetpoint}
-use Rattle.model.specs.Messages.{messageTaken, heatingMessage, coolingMessage, modeMessage, limitsMessage, outOfBandMessage}
+use Rattle.model.specs.Messages.{outOfBandMessage, heatingMessage, coolingMessage, modeMessage, limitsMessage}
 use Rattle.model.specs.Sweep.{sweep, timer, seedEvents, deadline}
-use Rattle.model.specs.Causes.{ofMessage, rowsIn, causes}
-use Rattle.model.specs.Step.{opened, step}
+use Rattle.model.specs.Causes.{ofMessage, ofCall, rowsIn, causes}
+use Rattle.model.specs.Step.{opened, step, stepSound}
 use Rattle.model.specs.Laws.{ByRows, OwnCase, OpeningOwnCase}
 use Rattle.records.specs.declared.Config.{Config}
 use Rattle.records.specs.declared.Settings.{Settings}
@@ -61,7 +61,7 @@ unless-number (w ∷ ws) r o n e = go (w .cause) (unless-number ws r o n e)
     go false f = f
 
 module _ (cfg : Config) (r : Controller) (d : Readings) where
-  message-number : (m : OutOfBandMessage) → messageTaken cfg r m .number ≡ firstFailing (rowsIn false (ofMessage cfg m))
+  message-number : (m : OutOfBandMessage) → outOfBandMessage cfg r m .number ≡ firstFailing (rowsIn false (ofMessage cfg m))
   unfolding firstFailing thenRows heatingMessage coolingMessage modeMessage limitsMessage
   message-number LocalTemperature = refl
   message-number RunningState = refl
@@ -71,23 +71,27 @@ module _ (cfg : Config) (r : Controller) (d : Readings) where
   message-number (SystemMode v) = unless-number _ r _ 0 refl
   message-number (SetpointLimits a b c e) = refl
 
+  sound-number : (k : Call) → stepSound cfg r d k .number ≡ firstFailing (rowsIn false (ofCall cfg (r .attrs .settings) d k))
+  unfolding firstFailing thenRows stepSound writeOccupiedHeatingSetpoint writeOccupiedCoolingSetpoint writeMinHeatSetpointLimit writeMaxHeatSetpointLimit writeMinCoolSetpointLimit writeMaxCoolSetpointLimit writeSystemMode setControlSequenceOfOperation raiseLowerSetpoint armClock seedEvents sweep timer deadline applied
+  sound-number (WriteOccupiedHeatingSetpoint v) = unless-number _ r _ 0 refl
+  sound-number (WriteOccupiedCoolingSetpoint v) = unless-number _ r _ 0 refl
+  sound-number (WriteMinHeatSetpointLimit v) = unless-number _ r _ 0 refl
+  sound-number (WriteMaxHeatSetpointLimit v) = unless-number _ r _ 0 refl
+  sound-number (WriteMinCoolSetpointLimit v) = unless-number _ r _ 0 refl
+  sound-number (WriteMaxCoolSetpointLimit v) = unless-number _ r _ 0 refl
+  sound-number (WriteSystemMode v) = unless-number _ r _ 0 refl
+  sound-number (SetControlSequenceOfOperation v) = refl
+  sound-number (RaiseLowerSetpoint mode amount) = unless-number _ _ _ 0 refl
+  sound-number ArmClock = refl
+  sound-number (OutOfBand m) = message-number m
+  sound-number SeedEvents = refl
+  sound-number Sweep = unless-number _ r _ 0 (swept-done cfg r d)
+  sound-number Timer = unless-number _ r _ 0 refl
+  sound-number Deadline = refl
+
   step-number : (k : Call) → step cfg r d k .number ≡ firstFailing (causes cfg r d k)
-  unfolding firstFailing thenRows step writeOccupiedHeatingSetpoint writeOccupiedCoolingSetpoint writeMinHeatSetpointLimit writeMaxHeatSetpointLimit writeMinCoolSetpointLimit writeMaxCoolSetpointLimit writeSystemMode setControlSequenceOfOperation raiseLowerSetpoint armClock outOfBandMessage seedEvents sweep timer deadline applied
-  step-number (WriteOccupiedHeatingSetpoint v) = unless-number _ r _ 0 refl
-  step-number (WriteOccupiedCoolingSetpoint v) = unless-number _ r _ 0 refl
-  step-number (WriteMinHeatSetpointLimit v) = unless-number _ r _ 0 refl
-  step-number (WriteMaxHeatSetpointLimit v) = unless-number _ r _ 0 refl
-  step-number (WriteMinCoolSetpointLimit v) = unless-number _ r _ 0 refl
-  step-number (WriteMaxCoolSetpointLimit v) = unless-number _ r _ 0 refl
-  step-number (WriteSystemMode v) = unless-number _ r _ 0 refl
-  step-number (SetControlSequenceOfOperation v) = unless-number _ r _ 0 refl
-  step-number (RaiseLowerSetpoint mode amount) = unless-number _ r _ _ (unless-number _ _ _ 0 refl)
-  step-number ArmClock = unless-number _ r _ 0 refl
-  step-number (OutOfBand m) = unless-number _ r _ _ (message-number m)
-  step-number SeedEvents = unless-number _ r _ 0 refl
-  step-number Sweep = unless-number _ r _ 0 (swept-done cfg r d)
-  step-number Timer = unless-number _ r _ 0 refl
-  step-number Deadline = unless-number _ r _ 0 refl
+  unfolding firstFailing thenRows step
+  step-number k = unless-number _ r _ _ (sound-number k)
 
 by-number : (n : ℕ) (ws : List Row) → numbered ws ≡ true → n ≡ firstFailing ws → ByRows n ws
 by-number n ws m e = rw e (by-rows ws m)

@@ -19,7 +19,7 @@ use Rattle.model.specs.Orders.{askSweep}
 use Rattle.model.specs.Writes.{applied, tooNearCooling, tooNearHeating, coolingWithGap, heatingWithGap, storeHeatingSetpoint, storeCoolingSetpoint, pullHeating, pullCooling}
 use Rattle.model.specs.RaiseBoth.{heatingTarget, coolingTarget, targetsStored, heatingAfterGap, raiseBoth}
 use Rattle.model.specs.RaiseLower.{raiseHeating, raiseCooling, raiseSides}
-use Rattle.model.specs.Messages.{messageTaken, heatingMessage, coolingMessage, modeMessage, limitsMessage, limitsTaken}
+use Rattle.model.specs.Messages.{outOfBandMessage, heatingMessage, coolingMessage, modeMessage, limitsMessage, limitsTaken}
 use Rattle.model.specs.Sweep.{Taken, snapshotOf, started, attributedTo, localRecorded, attributeLocalSetpointChange, sameSnapshot, committed, temperatureEmitted, takenFrom, takeEvents, sweepEvents, swept}
 use Rattle.records.specs.declared.Config.{Config}
 use Rattle.records.specs.declared.Settings.{Settings}
@@ -64,6 +64,9 @@ is-good cfg r a g = let p = g .placed in simp (a, p .limits .heat, p .limits .co
 pub sound-accepted : (cfg : Config) (r : Controller) → sound cfg r ≡ true → accepted cfg ≡ true
 unfolding sound
 sound-accepted cfg r e = both (accepted cfg) _ e .0
+
+pub sound-last : (cfg : Config) (r : Controller) → sound cfg r ≡ true → soundLast (r .events .last) ≡ true
+sound-last cfg r e = good cfg r e .last
 
 -- a setpoint within its limits is stored, the gap kept: the tests of both hold again
 module _ (cfg : Config) (v : Valid cfg) (s : Settings) (t : LimitTests cfg s) where
@@ -262,7 +265,7 @@ module _ (cfg : Config) (v : Valid cfg) (d : Readings) where
       let p = g .placed in
       record { placed = record { limits = record { heat = p .limits .heat; cool = p .limits .cool; gap = p .limits .gap }; heating = p .heating; cooling = p .cooling }; mode = e; last = g .last }
 
-  pub message-good : (r : Controller) (m : OutOfBandMessage) → Good cfg r → Good cfg (messageTaken cfg r m .rec)
+  pub message-good : (r : Controller) (m : OutOfBandMessage) → Good cfg r → Good cfg (outOfBandMessage cfg r m .rec)
   unfolding modeMessage limitsMessage askSweep
   message-good r LocalTemperature g = record { placed = g .placed; mode = g .mode; last = g .last }
   message-good r RunningState g = record { placed = g .placed; mode = g .mode; last = g .last }

@@ -22,9 +22,8 @@ use Rattle.model.specs.Sound.{soundHeatLimits, soundCoolLimits, soundHea
 use Rattle.model.specs.Orders.{askSweep}
 use Rattle.model.specs.Writes.{minHeatRows, maxHeatRows, minCoolRows, maxCoolRows, applied, pullHeating, pullCooling, limitStored, writeOccupiedHeatingSetpoint, writeOccupiedCoolingSetpoint, writeMinHeatSetpointLimit, writeMaxHeatSetpointLimit, writeMinCoolSetpointLimit, writeMaxCoolSetpointLimit, writeSystemMode, setControlSequenceOfOperation, armClock}
 use Rattle.model.specs.RaiseLower.{raiseLowerSetpoint}
-use Rattle.model.specs.Messages.{outOfBandMessage}
 use Rattle.model.specs.Sweep.{sweep, timer, seedEvents, deadline}
-use Rattle.model.specs.Step.{opened, step}
+use Rattle.model.specs.Step.{opened, step, stepSound}
 use Rattle.model.specs.Laws.{OpenedSound, StepSound}
 use Rattle.records.specs.declared.Config.{Config}
 use Rattle.records.specs.declared.Settings.{Settings}
@@ -116,25 +115,25 @@ rule w cfg g e = let n = neither (not w) (auto cfg && g) e in (not-false w (n .0
 
 -- a limit write that nothing refuses: the tests of the limits hold with its value
 module _ (cfg : Config) (v : Valid cfg) (r : Controller) (g : Good cfg r) (x : Hundredths) where
-  pub min-heat-tests : Clear (minHeatRows cfg r x) → LimitTests cfg (setMinHeat (r .attrs) x .settings)
+  pub min-heat-tests : Clear (minHeatRows cfg (r .attrs .settings) x) → LimitTests cfg (setMinHeat (r .attrs) x .settings)
   min-heat-tests c =
-      let w = rule _ cfg _ (c .1 .1 .0) in
-      min-heat-limits cfg v (r .attrs) x (g .placed .limits) (heat-served cfg v (or-left (serves cfg 0x15) (serves cfg 0x16) (not-false (serves cfg 0x15) (c .1 .0)))) (w .0) (w .1)
+      let w = rule _ cfg _ (c .1 .0) in
+      min-heat-limits cfg v (r .attrs) x (g .placed .limits) (heat-served cfg v (or-left (serves cfg 0x15) (serves cfg 0x16) (not-false (serves cfg 0x15) (c .0)))) (w .0) (w .1)
 
-  pub max-heat-tests : Clear (maxHeatRows cfg r x) → LimitTests cfg (setMaxHeat (r .attrs) x .settings)
+  pub max-heat-tests : Clear (maxHeatRows cfg (r .attrs .settings) x) → LimitTests cfg (setMaxHeat (r .attrs) x .settings)
   max-heat-tests c =
-      let w = rule _ cfg _ (c .1 .1 .0) in
-      max-heat-limits cfg v (r .attrs) x (g .placed .limits) (heat-served cfg v (or-right (serves cfg 0x15) (serves cfg 0x16) (not-false (serves cfg 0x16) (c .1 .0)))) (w .0) (w .1)
+      let w = rule _ cfg _ (c .1 .0) in
+      max-heat-limits cfg v (r .attrs) x (g .placed .limits) (heat-served cfg v (or-right (serves cfg 0x15) (serves cfg 0x16) (not-false (serves cfg 0x16) (c .0)))) (w .0) (w .1)
 
-  pub min-cool-tests : Clear (minCoolRows cfg r x) → LimitTests cfg (setMinCool (r .attrs) x .settings)
+  pub min-cool-tests : Clear (minCoolRows cfg (r .attrs .settings) x) → LimitTests cfg (setMinCool (r .attrs) x .settings)
   min-cool-tests c =
-      let w = rule _ cfg _ (c .1 .1 .0) in
-      min-cool-limits cfg v (r .attrs) x (g .placed .limits) (cool-served cfg v (or-left (serves cfg 0x17) (serves cfg 0x18) (not-false (serves cfg 0x17) (c .1 .0)))) (w .0) (w .1)
+      let w = rule _ cfg _ (c .1 .0) in
+      min-cool-limits cfg v (r .attrs) x (g .placed .limits) (cool-served cfg v (or-left (serves cfg 0x17) (serves cfg 0x18) (not-false (serves cfg 0x17) (c .0)))) (w .0) (w .1)
 
-  pub max-cool-tests : Clear (maxCoolRows cfg r x) → LimitTests cfg (setMaxCool (r .attrs) x .settings)
+  pub max-cool-tests : Clear (maxCoolRows cfg (r .attrs .settings) x) → LimitTests cfg (setMaxCool (r .attrs) x .settings)
   max-cool-tests c =
-      let w = rule _ cfg _ (c .1 .1 .0) in
-      max-cool-limits cfg v (r .attrs) x (g .placed .limits) (cool-served cfg v (or-right (serves cfg 0x17) (serves cfg 0x18) (not-false (serves cfg 0x18) (c .1 .0)))) (w .0) (w .1)
+      let w = rule _ cfg _ (c .1 .0) in
+      max-cool-limits cfg v (r .attrs) x (g .placed .limits) (cool-served cfg v (or-right (serves cfg 0x17) (serves cfg 0x18) (not-false (serves cfg 0x18) (c .0)))) (w .0) (w .1)
 
 module _ (cfg : Config) (v : Valid cfg) (d : Readings) (r : Controller) (g : Good cfg r) where
   abbrev GoodOutcome : Outcome → Type 0
@@ -150,27 +149,31 @@ module _ (cfg : Config) (v : Valid cfg) (d : Readings) (r : Controller) (g : Goo
   cool-limit : (a : Attrs) (code : ℕ) → LimitTests cfg (a .settings) → soundHeating cfg (a .settings) ≡ true → isSupportedSystemMode cfg (a .settings .mode) ≡ true → GoodOutcome (applied cfg d (andThen (limitStored cfg r a code) (pullCooling cfg d)))
   cool-limit a code t h m = applied-good cfg v d _ (cooling-pulled cfg v d (withAttrs r a) (record { limits = t; mode = m; last = g .last }) h)
 
+  sound-good : (k : Call) → GoodOutcome (stepSound cfg r d k)
+  unfolding stepSound writeOccupiedHeatingSetpoint writeOccupiedCoolingSetpoint writeMinHeatSetpointLimit writeMaxHeatSetpointLimit writeMinCoolSetpointLimit writeMaxCoolSetpointLimit writeSystemMode setControlSequenceOfOperation raiseLowerSetpoint armClock seedEvents sweep timer deadline soundHeating soundCooling inHeatLimits inCoolLimits minHeatSetpoint maxHeatSetpoint minCoolSetpoint maxCoolSetpoint
+  sound-good (WriteOccupiedHeatingSetpoint x) =
+      guarded _ _ (λ c. applied-good cfg v d _ (heating-stored cfg v d external x r (rest cfg r g) (g .placed .cooling) (not-false (inHeatLimits cfg (r .attrs .settings) x) (c .1 .0))))
+  sound-good (WriteOccupiedCoolingSetpoint x) =
+      guarded _ _ (λ c. applied-good cfg v d _ (cooling-stored cfg v d external x r (rest cfg r g) (g .placed .heating) (not-false (inCoolLimits cfg (r .attrs .settings) x) (c .1 .0))))
+  sound-good (WriteMinHeatSetpointLimit x) = guarded _ _ (λ c. heat-limit (setMinHeat (r .attrs) x) 0x15 (min-heat-tests cfg v r g x c) (g .placed .cooling) (g .mode))
+  sound-good (WriteMaxHeatSetpointLimit x) = guarded _ _ (λ c. heat-limit (setMaxHeat (r .attrs) x) 0x16 (max-heat-tests cfg v r g x c) (g .placed .cooling) (g .mode))
+  sound-good (WriteMinCoolSetpointLimit x) = guarded _ _ (λ c. cool-limit (setMinCool (r .attrs) x) 0x17 (min-cool-tests cfg v r g x c) (g .placed .heating) (g .mode))
+  sound-good (WriteMaxCoolSetpointLimit x) = guarded _ _ (λ c. cool-limit (setMaxCool (r .attrs) x) 0x18 (max-cool-tests cfg v r g x c) (g .placed .heating) (g .mode))
+  sound-good (WriteSystemMode m) =
+      guarded _ _ (λ c. applied-good cfg v d (unchanged (withAttrs r (setMode (r .attrs) m))) (mode-stored cfg v d m r (not-false (isSupportedSystemMode cfg m) (c .0)) g))
+  sound-good (SetControlSequenceOfOperation m) = g
+  sound-good (RaiseLowerSetpoint mode amount) =
+      by-unless GoodOutcome _ (armedClock cfg d r) _ (λ n. armed-good cfg v d r g) (λ c. applied-good cfg v d _ (sides-raised cfg v d mode amount _ (armed-good cfg v d r g)))
+  sound-good ArmClock = armed-good cfg v d r g
+  sound-good (OutOfBand m) = message-good cfg v d r m g
+  sound-good SeedEvents = started-good cfg v d r g
+  sound-good Sweep = guarded _ _ (λ c. swept-good cfg v d r (c .0) g)
+  sound-good Timer = guarded _ _ (λ c. events-good cfg v d r (c .0) g)
+  sound-good Deadline = g
+
   pub step-good : (k : Call) → GoodOutcome (step cfg r d k)
-  unfolding step writeOccupiedHeatingSetpoint writeOccupiedCoolingSetpoint writeMinHeatSetpointLimit writeMaxHeatSetpointLimit writeMinCoolSetpointLimit writeMaxCoolSetpointLimit writeSystemMode setControlSequenceOfOperation raiseLowerSetpoint armClock outOfBandMessage seedEvents sweep timer deadline soundHeating soundCooling inHeatLimits inCoolLimits minHeatSetpoint maxHeatSetpoint minCoolSetpoint maxCoolSetpoint
-  step-good (WriteOccupiedHeatingSetpoint x) =
-      guarded _ _ (λ c. applied-good cfg v d _ (heating-stored cfg v d external x r (rest cfg r g) (g .placed .cooling) (not-false (inHeatLimits cfg (r .attrs .settings) x) (c .1 .1 .0))))
-  step-good (WriteOccupiedCoolingSetpoint x) =
-      guarded _ _ (λ c. applied-good cfg v d _ (cooling-stored cfg v d external x r (rest cfg r g) (g .placed .heating) (not-false (inCoolLimits cfg (r .attrs .settings) x) (c .1 .1 .0))))
-  step-good (WriteMinHeatSetpointLimit x) = guarded _ _ (λ c. heat-limit (setMinHeat (r .attrs) x) 0x15 (min-heat-tests cfg v r g x c) (g .placed .cooling) (g .mode))
-  step-good (WriteMaxHeatSetpointLimit x) = guarded _ _ (λ c. heat-limit (setMaxHeat (r .attrs) x) 0x16 (max-heat-tests cfg v r g x c) (g .placed .cooling) (g .mode))
-  step-good (WriteMinCoolSetpointLimit x) = guarded _ _ (λ c. cool-limit (setMinCool (r .attrs) x) 0x17 (min-cool-tests cfg v r g x c) (g .placed .heating) (g .mode))
-  step-good (WriteMaxCoolSetpointLimit x) = guarded _ _ (λ c. cool-limit (setMaxCool (r .attrs) x) 0x18 (max-cool-tests cfg v r g x c) (g .placed .heating) (g .mode))
-  step-good (WriteSystemMode m) =
-      guarded _ _ (λ c. applied-good cfg v d (unchanged (withAttrs r (setMode (r .attrs) m))) (mode-stored cfg v d m r (not-false (isSupportedSystemMode cfg m) (c .1 .0)) g))
-  step-good (SetControlSequenceOfOperation m) = guarded _ _ (λ c. g)
-  step-good (RaiseLowerSetpoint mode amount) =
-      guarded _ _ (λ c. by-unless GoodOutcome _ (armedClock cfg d r) _ (λ n. armed-good cfg v d r g) (λ k. applied-good cfg v d _ (sides-raised cfg v d mode amount _ (armed-good cfg v d r g))))
-  step-good ArmClock = guarded _ _ (λ c. armed-good cfg v d r g)
-  step-good (OutOfBand m) = guarded _ _ (λ c. message-good cfg v d r m g)
-  step-good SeedEvents = guarded _ _ (λ c. started-good cfg v d r g)
-  step-good Sweep = guarded _ _ (λ c. swept-good cfg v d r (c .1 .0) g)
-  step-good Timer = guarded _ _ (λ c. events-good cfg v d r (c .1 .0) g)
-  step-good Deadline = guarded _ _ (λ c. g)
+  unfolding step
+  step-good k = guarded _ _ (λ c. sound-good k)
 
 pub step-sound : StepSound
 step-sound cfg r d k e =

@@ -4,6 +4,8 @@ pub mod Logic
 pub mod Bounds
 pub mod Refused
 pub mod Causes
+pub mod Plans
+pub mod Accepted
 pub mod Valid
 pub mod Chain
 pub mod Repair
@@ -11,11 +13,9 @@ pub mod RepairedSettings
 pub mod LocalChange
 pub mod Good
 pub mod Kept
-pub mod Band
+pub mod Gaps
 pub mod RaiseBoth
 pub mod Agree
 pub mod Mode
 pub mod Pairs
-pub mod Agreement
-pub mod LineThree
 pub mod Examples

@@ -79,6 +79,11 @@ by-unless P [] r o f g = g tt
 by-unless P (w ∷ ws) r o f g =
     by-cond P (w .cause) (quiet (w .number) r) (unless ws r o) (λ e. f (w .number)) (λ e. by-unless P ws r o f (λ c. g (e, c)))
 
+-- two picks by the same test
+pub both-cond {ℓ} : {X Y : Type 0} (R : X → Y → Type ℓ) (b : Bool) (x y : X) (u w : Y) → (b ≡ true → R x u) → (b ≡ false → R y w) → R (cond b x y) (cond b u w)
+both-cond R true x y u w f g = f refl
+both-cond R false x y u w f g = g refl
+
 -- the same, knowing that a refusal's number is not 0
 pub by-refusal {ℓ} : (P : Outcome → Type ℓ) (ws : List Row) (r : Controller) (o : Outcome) → numbered ws ≡ true → ((n : ℕ) → eqb n 0 ≡ false → P (quiet n r)) → (Clear ws → P o) → P (unless ws r o)
 unfolding unless

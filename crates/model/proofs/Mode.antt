@@ -13,14 +13,14 @@ use Rattle.model.specs.Modes.{isSupportedSystemMode}
 use Rattle.model.specs.Attribution.{armedClock, claimSetpoints}
 use Rattle.model.specs.Repair.{repaired}
 use Rattle.model.specs.RepairedSettings.{repairedSettings}
-use Rattle.model.specs.Sound.{sound, unsound}
+use Rattle.model.specs.Sound.{sound}
 use Rattle.model.specs.Orders.{askSweep}
 use Rattle.model.specs.Writes.{applied, storeHeatingSetpoint, storeCoolingSetpoint, pullHeating, pullCooling, writeOccupiedHeatingSetpoint, writeOccupiedCoolingSetpoint, writeMinHeatSetpointLimit, writeMaxHeatSetpointLimit, writeMinCoolSetpointLimit, writeMaxCoolSetpointLimit, writeSystemMode, setControlSequenceOfOperation, armClock}
 use Rattle.model.specs.RaiseBoth.{raiseBoth}
 use Rattle.model.specs.RaiseLower.{raiseHeating, raiseCooling, raiseSides, raiseLowerSetpoint}
-use Rattle.model.specs.Messages.{messageTaken, heatingMessage, coolingMessage, modeMessage, limitsMessage, limitsTaken, outOfBandMessage}
+use Rattle.model.specs.Messages.{outOfBandMessage, heatingMessage, coolingMessage, modeMessage, limitsMessage, limitsTaken}
 use Rattle.model.specs.Sweep.{sweep, timer, started, seedEvents, deadline}
-use Rattle.model.specs.Step.{step}
+use Rattle.model.specs.Step.{step, stepSound}
 use Rattle.records.specs.declared.Config.{Config}
 use Rattle.records.specs.declared.Settings.{Settings}
 use Rattle.records.specs.declared.Attrs.{Attrs}
@@ -34,7 +34,8 @@ use Rattle.model.proofs.Logic.{by-cond, by-unless}
 use Rattle.model.proofs.Valid.{Valid}
 use Rattle.model.proofs.Repair.{by-formula}
 use Rattle.model.proofs.Good.{Good}
-use Rattle.model.proofs.Band.{events-attrs, swept-attrs}
+use Rattle.model.proofs.Refused.{sound-step}
+use Rattle.model.proofs.Gaps.{events-attrs, swept-attrs}
 
 -- the mode after a call, from the mode before it
 abbrev pub modeAfter : Config → ℕ → Call → ℕ
@@ -122,15 +123,7 @@ module _ (cfg : Config) (v : Valid cfg) (d : Readings) (r : Controller) (g : Goo
       go true = e
       go false = refl
 
-  pass-28 : (ws : List Row) (o : Outcome) → unless (unsound cfg r ∷ ws) r o ≡ unless ws r o
-  unfolding unless
-  pass-28 ws o = simp s
-
-  pass-all : (o : Outcome) → unless (unsound cfg r ∷ []) r o ≡ o
-  unfolding unless
-  pass-all o = simp s
-
-  message-mode : (m : OutOfBandMessage) → Moded (modeAfter cfg mode (OutOfBand m)) (messageTaken cfg r m)
+  message-mode : (m : OutOfBandMessage) → Moded (modeAfter cfg mode (OutOfBand m)) (outOfBandMessage cfg r m)
   unfolding heatingMessage coolingMessage modeMessage limitsMessage limitsTaken askSweep
   message-mode LocalTemperature = refl
   message-mode RunningState = refl
@@ -140,21 +133,24 @@ module _ (cfg : Config) (v : Valid cfg) (d : Readings) (r : Controller) (g : Goo
   message-mode (SystemMode m) = chosen-message m _ refl
   message-mode (SetpointLimits x y z w) = mode-repaired cfg v (limitsTaken cfg (r .attrs) x y z w) (g .mode)
 
+  sound-mode : (k : Call) → Moded (modeAfter cfg mode k) (stepSound cfg r d k)
+  unfolding stepSound writeOccupiedHeatingSetpoint writeOccupiedCoolingSetpoint writeMinHeatSetpointLimit writeMaxHeatSetpointLimit writeMinCoolSetpointLimit writeMaxCoolSetpointLimit writeSystemMode setControlSequenceOfOperation raiseLowerSetpoint armClock seedEvents sweep timer deadline applied askSweep storeHeatingSetpoint storeCoolingSetpoint started claimSetpoints armedClock
+  sound-mode (WriteOccupiedHeatingSetpoint x) = guarded _ _ refl
+  sound-mode (WriteOccupiedCoolingSetpoint x) = guarded _ _ refl
+  sound-mode (WriteMinHeatSetpointLimit x) = guarded _ _ (pull-heat-mode cfg d (withAttrs r (setMinHeat (r .attrs) x)))
+  sound-mode (WriteMaxHeatSetpointLimit x) = guarded _ _ (pull-heat-mode cfg d (withAttrs r (setMaxHeat (r .attrs) x)))
+  sound-mode (WriteMinCoolSetpointLimit x) = guarded _ _ (pull-cool-mode cfg d (withAttrs r (setMinCool (r .attrs) x)))
+  sound-mode (WriteMaxCoolSetpointLimit x) = guarded _ _ (pull-cool-mode cfg d (withAttrs r (setMaxCool (r .attrs) x)))
+  sound-mode (WriteSystemMode m) = chosen-mode m _ refl
+  sound-mode (SetControlSequenceOfOperation m) = refl
+  sound-mode (RaiseLowerSetpoint side amount) =
+      by-unless (Moded mode) _ (armedClock cfg d r) _ (λ n. refl) (λ c. raise-mode cfg d side amount (armedClock cfg d r))
+  sound-mode ArmClock = refl
+  sound-mode (OutOfBand m) = message-mode m
+  sound-mode SeedEvents = refl
+  sound-mode Sweep = guarded _ _ (ap (λ (a : Attrs). a .settings .mode) (swept-attrs cfg d r))
+  sound-mode Timer = guarded _ _ (ap (λ (a : Attrs). a .settings .mode) (events-attrs cfg d r))
+  sound-mode Deadline = refl
+
   pub step-mode : (k : Call) → Moded (modeAfter cfg mode k) (step cfg r d k)
-  unfolding step writeOccupiedHeatingSetpoint writeOccupiedCoolingSetpoint writeMinHeatSetpointLimit writeMaxHeatSetpointLimit writeMinCoolSetpointLimit writeMaxCoolSetpointLimit writeSystemMode setControlSequenceOfOperation raiseLowerSetpoint armClock outOfBandMessage seedEvents sweep timer deadline applied askSweep storeHeatingSetpoint storeCoolingSetpoint started claimSetpoints armedClock
-  step-mode (WriteOccupiedHeatingSetpoint x) = guarded _ _ refl
-  step-mode (WriteOccupiedCoolingSetpoint x) = guarded _ _ refl
-  step-mode (WriteMinHeatSetpointLimit x) = guarded _ _ (pull-heat-mode cfg d (withAttrs r (setMinHeat (r .attrs) x)))
-  step-mode (WriteMaxHeatSetpointLimit x) = guarded _ _ (pull-heat-mode cfg d (withAttrs r (setMaxHeat (r .attrs) x)))
-  step-mode (WriteMinCoolSetpointLimit x) = guarded _ _ (pull-cool-mode cfg d (withAttrs r (setMinCool (r .attrs) x)))
-  step-mode (WriteMaxCoolSetpointLimit x) = guarded _ _ (pull-cool-mode cfg d (withAttrs r (setMaxCool (r .attrs) x)))
-  step-mode (WriteSystemMode m) = subst (Moded (cond (isSupportedSystemMode cfg m) m mode)) (sym (pass-28 _ _)) (chosen-mode m _ refl)
-  step-mode (SetControlSequenceOfOperation m) = guarded _ _ refl
-  step-mode (RaiseLowerSetpoint side amount) =
-      guarded _ _ (by-unless (Moded mode) _ (armedClock cfg d r) _ (λ n. refl) (λ c. raise-mode cfg d side amount (armedClock cfg d r)))
-  step-mode ArmClock = guarded _ _ refl
-  step-mode (OutOfBand m) = subst (Moded (modeAfter cfg mode (OutOfBand m))) (sym (pass-all _)) (message-mode m)
-  step-mode SeedEvents = guarded _ _ refl
-  step-mode Sweep = guarded _ _ (ap (λ (a : Attrs). a .settings .mode) (swept-attrs cfg d r))
-  step-mode Timer = guarded _ _ (ap (λ (a : Attrs). a .settings .mode) (events-attrs cfg d r))
-  step-mode Deadline = guarded _ _ refl
+  step-mode k = subst (Moded (modeAfter cfg mode k)) (sym (sound-step cfg r d k s)) (sound-mode k)

@@ -10,7 +10,7 @@ use Rattle.records.specs.Records.{withAttrs, setMinHeat, setMaxHeat, setMinCool
 use Rattle.model.specs.Answers.{Outcome, quiet, andThen}
 use Rattle.model.specs.Refusals.{Row, row, unless, Clear}
 use Rattle.model.specs.Served.{heats, cools, serves}
-use Rattle.model.specs.Limits.{inHeatLimits, inCoolLimits}
+use Rattle.model.specs.Limits.{EqualLimits, inHeatLimits, inCoolLimits}
 use Rattle.model.specs.Attribution.{external, armedClock, claimSetpoints}
 use Rattle.model.specs.Validation.{accepted}
 use Rattle.model.specs.Repair.{repaired}
@@ -18,9 +18,9 @@ use Rattle.model.specs.Sound.{sound, unsound}
 use Rattle.model.specs.Orders.{askSweep}
 use Rattle.model.specs.Writes.{minHeatRows, maxHeatRows, minCoolRows, maxCoolRows, unserved, applied, pullHeating, pullCooling, limitStored, writeOccupiedHeatingSetpoint, writeOccupiedCoolingSetpoint, writeMinHeatSetpointLimit, writeMaxHeatSetpointLimit, writeMinCoolSetpointLimit, writeMaxCoolSetpointLimit, writeSystemMode, setControlSequenceOfOperation, armClock}
 use Rattle.model.specs.RaiseLower.{namesAbsentSide, raiseSides, raiseLowerSetpoint}
-use Rattle.model.specs.Messages.{messageTaken, heatingMessage, coolingMessage, modeMessage, limitsMessage, limitsTaken, outOfBandMessage}
+use Rattle.model.specs.Messages.{outOfBandMessage, heatingMessage, coolingMessage, modeMessage, limitsMessage, limitsTaken}
 use Rattle.model.specs.Sweep.{sweep, timer, started, seedEvents, deadline}
-use Rattle.model.specs.Step.{step}
+use Rattle.model.specs.Step.{step, stepSound}
 use Rattle.records.specs.declared.Config.{Config}
 use Rattle.records.specs.declared.Attrs.{Attrs}
 use Rattle.records.specs.declared.Controller.{Controller}
@@ -29,14 +29,13 @@ use Rattle.records.specs.declared.OutOfBandMessage.{OutOfBandMessage}
 use Rattle.records.specs.declared.OutOfBandMessage.the-variants.{LocalTemperature, RunningState, Update, OccupiedHeatingSetpoint, OccupiedCoolingSetpoint, SystemMode, SetpointLimits}
 use Rattle.records.specs.declared.Call.{Call}
 use Rattle.records.specs.declared.Call.the-variants.{WriteOccupiedHeatingSetpoint, WriteOccupiedCoolingSetpoint, WriteMinHeatSetpointLimit, WriteMaxHeatSetpointLimit, WriteMinCoolSetpointLimit, WriteMaxCoolSetpointLimit, WriteSystemMode, SetControlSequenceOfOperation, RaiseLowerSetpoint, ArmClock, OutOfBand, SeedEvents, Sweep, Timer, Deadline}
-use Rattle.model.specs.Claims.{number, EqualLimits}
 use Rattle.model.proofs.Logic.{or-left, or-right}
 use Rattle.model.proofs.Valid.{Valid, valid}
 use Rattle.model.proofs.Good.{Good, is-good}
 use Rattle.model.proofs.Kept.{heat-served, cool-served}
 use Rattle.model.proofs.Agree.{SameLimits, SamePoints, both-unless, chained, limits-in-force, same-in-heat, same-in-cool, same-clamp-heat, same-clamp-cool, heating-limits, cooling-limits, pull-heat-limits, pull-cool-limits, raise-limits, repaired-limits, repaired-points, heating-points, cooling-points, pull-heat-points, pull-cool-points, raise-points}
 use Rattle.model.proofs.Refused.{swept-done}
-use Rattle.model.proofs.Band.{settings-armed, events-attrs, swept-attrs}
+use Rattle.model.proofs.Gaps.{settings-armed, events-attrs, swept-attrs}
 
 -- after a limits message limits are equal, whatever they were before; and setpoints where they were
 module _ (cfg : Config) (v : Valid cfg) (a b : Attrs) (x y z w : Hundredths) where
@@ -76,26 +75,26 @@ module _ (cfg : Config) (ok : accepted cfg ≡ true) (d : Readings) (q r : Contr
   pub guarded : (ws vs : List Row) (o p : Outcome) → ws ≡ vs → (Clear ws → Both o p) → Both (unless ws q o) (unless vs r p)
   guarded ws vs o p e f = both-unless Both ws vs q r o p e refused f
 
-  pub heat-rows : (x : Hundredths) → _≡_ {A = List Row} (unsound cfg q ∷ unserved cfg 0x12 ∷ row 22 (not (inHeatLimits cfg (q .attrs .settings) x)) ∷ []) (unsound cfg r ∷ unserved cfg 0x12 ∷ row 22 (not (inHeatLimits cfg (r .attrs .settings) x)) ∷ [])
-  heat-rows x = simp (sq, sr, same-in-heat cfg (q .attrs .settings) (r .attrs .settings) l x x refl)
+  pub heat-rows : (x : Hundredths) → _≡_ {A = List Row} (unserved cfg 0x12 ∷ row 22 (not (inHeatLimits cfg (q .attrs .settings) x)) ∷ []) (unserved cfg 0x12 ∷ row 22 (not (inHeatLimits cfg (r .attrs .settings) x)) ∷ [])
+  heat-rows x = simp (same-in-heat cfg (q .attrs .settings) (r .attrs .settings) l x x refl)
 
-  pub cool-rows : (x : Hundredths) → _≡_ {A = List Row} (unsound cfg q ∷ unserved cfg 0x11 ∷ row 22 (not (inCoolLimits cfg (q .attrs .settings) x)) ∷ []) (unsound cfg r ∷ unserved cfg 0x11 ∷ row 22 (not (inCoolLimits cfg (r .attrs .settings) x)) ∷ [])
-  cool-rows x = simp (sq, sr, same-in-cool cfg (q .attrs .settings) (r .attrs .settings) l x x refl)
+  pub cool-rows : (x : Hundredths) → _≡_ {A = List Row} (unserved cfg 0x11 ∷ row 22 (not (inCoolLimits cfg (q .attrs .settings) x)) ∷ []) (unserved cfg 0x11 ∷ row 22 (not (inCoolLimits cfg (r .attrs .settings) x)) ∷ [])
+  cool-rows x = simp (same-in-cool cfg (q .attrs .settings) (r .attrs .settings) l x x refl)
 
   pub in-force : EqualLimits cfg (q .attrs .settings) (r .attrs .settings)
   in-force = limits-in-force cfg (q .attrs .settings) (r .attrs .settings) l
 
-  pub min-heat-rows : (x : Hundredths) → minHeatRows cfg q x ≡ minHeatRows cfg r x
-  min-heat-rows x = simp (sq, sr, l .maxheat, in-force .min-cool)
+  pub min-heat-rows : (x : Hundredths) → minHeatRows cfg (q .attrs .settings) x ≡ minHeatRows cfg (r .attrs .settings) x
+  min-heat-rows x = simp (l .maxheat, in-force .min-cool)
 
-  pub max-heat-rows : (x : Hundredths) → maxHeatRows cfg q x ≡ maxHeatRows cfg r x
-  max-heat-rows x = simp (sq, sr, l .minheat, in-force .max-cool)
+  pub max-heat-rows : (x : Hundredths) → maxHeatRows cfg (q .attrs .settings) x ≡ maxHeatRows cfg (r .attrs .settings) x
+  max-heat-rows x = simp (l .minheat, in-force .max-cool)
 
-  pub min-cool-rows : (x : Hundredths) → minCoolRows cfg q x ≡ minCoolRows cfg r x
-  min-cool-rows x = simp (sq, sr, l .maxcool, in-force .min-heat)
+  pub min-cool-rows : (x : Hundredths) → minCoolRows cfg (q .attrs .settings) x ≡ minCoolRows cfg (r .attrs .settings) x
+  min-cool-rows x = simp (l .maxcool, in-force .min-heat)
 
-  pub max-cool-rows : (x : Hundredths) → maxCoolRows cfg q x ≡ maxCoolRows cfg r x
-  max-cool-rows x = simp (sq, sr, l .mincool, in-force .max-heat)
+  pub max-cool-rows : (x : Hundredths) → maxCoolRows cfg (q .attrs .settings) x ≡ maxCoolRows cfg (r .attrs .settings) x
+  max-cool-rows x = simp (l .mincool, in-force .max-heat)
 
   -- a stored limit and its pull, on both
   pub heat-limit-both : (a b : Attrs) (code : ℕ) → SameLimits (a .settings) (b .settings) → (SamePoints cfg (q .attrs .settings) (r .attrs .settings) → SamePoints cfg (a .settings) (b .settings)) → heats cfg ≡ true
@@ -133,7 +132,7 @@ module _ (cfg : Config) (ok : accepted cfg ≡ true) (d : Readings) (q r : Contr
         points = λ k. subst (λ (a : Attrs). SamePoints cfg (a .settings) (p .rec .attrs .settings)) (sym e) (subst (λ (b : Attrs). SamePoints cfg (q .attrs .settings) (b .settings)) (sym f) k);
       }
 
-  pub message-both : (m : OutOfBandMessage) → Both (messageTaken cfg q m) (messageTaken cfg r m)
+  pub message-both : (m : OutOfBandMessage) → Both (outOfBandMessage cfg q m) (outOfBandMessage cfg r m)
   unfolding heatingMessage coolingMessage modeMessage limitsMessage askSweep
   message-both LocalTemperature = record { number = refl; limits = l; points = λ p. p }
   message-both RunningState = record { number = refl; limits = l; points = λ p. p }
@@ -170,44 +169,48 @@ module _ (cfg : Config) (ok : accepted cfg ≡ true) (d : Readings) (q r : Contr
       let y = armedClock cfg d r in
       record { number = refl; limits = chained (raise-limits cfg d mode a x) (raise-limits cfg d mode a y) l; points = λ p. raise-points cfg d x y l p v mode a z }
 
-  pub step-both : (k : Call) → Both (step cfg q d k) (step cfg r d k)
-  unfolding step writeOccupiedHeatingSetpoint writeOccupiedCoolingSetpoint writeMinHeatSetpointLimit writeMaxHeatSetpointLimit writeMinCoolSetpointLimit writeMaxCoolSetpointLimit writeSystemMode setControlSequenceOfOperation raiseLowerSetpoint armClock outOfBandMessage seedEvents sweep timer deadline applied askSweep started claimSetpoints
-  step-both (WriteOccupiedHeatingSetpoint x) =
+  sound-both : (k : Call) → Both (stepSound cfg q d k) (stepSound cfg r d k)
+  unfolding stepSound writeOccupiedHeatingSetpoint writeOccupiedCoolingSetpoint writeMinHeatSetpointLimit writeMaxHeatSetpointLimit writeMinCoolSetpointLimit writeMaxCoolSetpointLimit writeSystemMode setControlSequenceOfOperation raiseLowerSetpoint armClock seedEvents sweep timer deadline applied askSweep started claimSetpoints
+  sound-both (WriteOccupiedHeatingSetpoint x) =
       guarded _ _ _ _ (heat-rows x)
       (λ c. record { number = refl; limits = chained (heating-limits cfg d external x q) (heating-limits cfg d external x r) l; points = λ p. heating-points cfg d q r l x x refl (p .cooling) })
-  step-both (WriteOccupiedCoolingSetpoint x) =
+  sound-both (WriteOccupiedCoolingSetpoint x) =
       guarded _ _ _ _ (cool-rows x)
       (λ c. record { number = refl; limits = chained (cooling-limits cfg d external x q) (cooling-limits cfg d external x r) l; points = λ p. cooling-points cfg d q r l x x refl (p .heating) })
-  step-both (WriteMinHeatSetpointLimit x) =
+  sound-both (WriteMinHeatSetpointLimit x) =
       guarded _ _ _ _ (min-heat-rows x)
       (λ c. heat-limit-both (setMinHeat (q .attrs) x) (setMinHeat (r .attrs) x) 0x15 (record { minheat = refl; maxheat = l .maxheat; mincool = l .mincool; maxcool = l .maxcool }) (λ p. record { heating = p .heating; cooling = p .cooling })
-      (v .limits-heat (heat-served cfg v (or-left (serves cfg 0x15) (serves cfg 0x16) (not-false (serves cfg 0x15) (c .1 .0))))))
-  step-both (WriteMaxHeatSetpointLimit x) =
+      (v .limits-heat (heat-served cfg v (or-left (serves cfg 0x15) (serves cfg 0x16) (not-false (serves cfg 0x15) (c .0))))))
+  sound-both (WriteMaxHeatSetpointLimit x) =
       guarded _ _ _ _ (max-heat-rows x)
       (λ c. heat-limit-both (setMaxHeat (q .attrs) x) (setMaxHeat (r .attrs) x) 0x16 (record { minheat = l .minheat; maxheat = refl; mincool = l .mincool; maxcool = l .maxcool }) (λ p. record { heating = p .heating; cooling = p .cooling })
-      (v .limits-heat (heat-served cfg v (or-right (serves cfg 0x15) (serves cfg 0x16) (not-false (serves cfg 0x16) (c .1 .0))))))
-  step-both (WriteMinCoolSetpointLimit x) =
+      (v .limits-heat (heat-served cfg v (or-right (serves cfg 0x15) (serves cfg 0x16) (not-false (serves cfg 0x16) (c .0))))))
+  sound-both (WriteMinCoolSetpointLimit x) =
       guarded _ _ _ _ (min-cool-rows x)
       (λ c. cool-limit-both (setMinCool (q .attrs) x) (setMinCool (r .attrs) x) 0x17 (record { minheat = l .minheat; maxheat = l .maxheat; mincool = refl; maxcool = l .maxcool }) (λ p. record { heating = p .heating; cooling = p .cooling })
-      (v .limits-cool (cool-served cfg v (or-left (serves cfg 0x17) (serves cfg 0x18) (not-false (serves cfg 0x17) (c .1 .0))))))
-  step-both (WriteMaxCoolSetpointLimit x) =
+      (v .limits-cool (cool-served cfg v (or-left (serves cfg 0x17) (serves cfg 0x18) (not-false (serves cfg 0x17) (c .0))))))
+  sound-both (WriteMaxCoolSetpointLimit x) =
       guarded _ _ _ _ (max-cool-rows x)
       (λ c. cool-limit-both (setMaxCool (q .attrs) x) (setMaxCool (r .attrs) x) 0x18 (record { minheat = l .minheat; maxheat = l .maxheat; mincool = l .mincool; maxcool = refl }) (λ p. record { heating = p .heating; cooling = p .cooling })
-      (v .limits-cool (cool-served cfg v (or-right (serves cfg 0x17) (serves cfg 0x18) (not-false (serves cfg 0x18) (c .1 .0))))))
-  step-both (WriteSystemMode m) =
-      guarded _ _ _ _ (simp (sq, sr))
+      (v .limits-cool (cool-served cfg v (or-right (serves cfg 0x17) (serves cfg 0x18) (not-false (serves cfg 0x18) (c .0))))))
+  sound-both (WriteSystemMode m) =
+      guarded _ _ _ _ refl
       (λ c. record {
         number = refl;
         limits = record { minheat = l .minheat; maxheat = l .maxheat; mincool = l .mincool; maxcool = l .maxcool };
         points = λ p. record { heating = p .heating; cooling = p .cooling };
       })
-  step-both (SetControlSequenceOfOperation m) = guarded _ _ _ _ sound-row (λ c. refused 0)
-  step-both (RaiseLowerSetpoint mode amount) =
-      guarded _ _ _ _ sound-row (λ c. both-unless Both _ _ (armedClock cfg d q) (armedClock cfg d r) _ _ refl (λ n. kept-both _ _ refl (settings-armed cfg v d q) (settings-armed cfg v d r))
-      (λ e. raised-both mode amount (e .1 .0)))
-  step-both ArmClock = guarded _ _ _ _ sound-row (λ c. kept-both _ _ refl (settings-armed cfg v d q) (settings-armed cfg v d r))
-  step-both (OutOfBand m) = guarded _ _ _ _ sound-row (λ c. message-both m)
-  step-both SeedEvents = guarded _ _ _ _ sound-row (λ c. kept-both _ _ refl refl refl)
-  step-both Sweep = guarded _ _ _ _ (simp (sq, sr)) (λ c. kept-both _ _ (swept-done cfg q d ∙ sym (swept-done cfg r d)) (swept-attrs cfg d q) (swept-attrs cfg d r))
-  step-both Timer = guarded _ _ _ _ (simp (sq, sr)) (λ c. kept-both _ _ refl (events-attrs cfg d q) (events-attrs cfg d r))
-  step-both Deadline = guarded _ _ _ _ sound-row (λ c. record { number = refl; limits = l; points = λ p. p })
+  sound-both (SetControlSequenceOfOperation m) = refused 0
+  sound-both (RaiseLowerSetpoint mode amount) =
+      both-unless Both _ _ (armedClock cfg d q) (armedClock cfg d r) _ _ refl (λ n. kept-both _ _ refl (settings-armed cfg v d q) (settings-armed cfg v d r))
+      (λ e. raised-both mode amount (e .1 .0))
+  sound-both ArmClock = kept-both _ _ refl (settings-armed cfg v d q) (settings-armed cfg v d r)
+  sound-both (OutOfBand m) = message-both m
+  sound-both SeedEvents = kept-both _ _ refl refl refl
+  sound-both Sweep = guarded _ _ _ _ refl (λ c. kept-both _ _ (swept-done cfg q d ∙ sym (swept-done cfg r d)) (swept-attrs cfg d q) (swept-attrs cfg d r))
+  sound-both Timer = guarded _ _ _ _ refl (λ c. kept-both _ _ refl (events-attrs cfg d q) (events-attrs cfg d r))
+  sound-both Deadline = record { number = refl; limits = l; points = λ p. p }
+
+  pub step-both : (k : Call) → Both (step cfg q d k) (step cfg r d k)
+  unfolding step
+  step-both k = guarded _ _ _ _ sound-row (λ c. sound-both k)

@@ -19,8 +19,7 @@ use Rattle.model.specs.Sound.{sound}
 use Rattle.model.specs.Writes.{applied, tooNearHeating, heatingWithGap}
 use Rattle.model.specs.RaiseBoth.{heatingTarget, coolingTarget, targetsStored, raiseBoth, TargetsKeepGap, HeatingAtTarget, SameAmount}
 use Rattle.model.specs.RaiseLower.{namesAbsentSide, raiseSides, raiseLowerSetpoint}
-use Rattle.model.specs.Step.{opened, step}
-use Rattle.model.specs.Claims.{run, BothAtTargets}
+use Rattle.model.specs.Step.{step, stepSound}
 use Rattle.records.specs.declared.Config.{Config}
 use Rattle.records.specs.declared.Settings.{Settings}
 use Rattle.records.specs.declared.Controller.{Controller}
@@ -30,8 +29,7 @@ use Rattle.model.proofs.Logic.{cases}
 use Rattle.model.proofs.Valid.{Valid, valid}
 use Rattle.model.proofs.Chain.{InForce, inside, in-force}
 use Rattle.model.proofs.Good.{Good, good, is-good, sound-accepted}
-use Rattle.model.proofs.Kept.{opened-good}
-use Rattle.model.proofs.Band.{run-good, run-gap, opened-gap}
+use Rattle.model.proofs.Refused.{sound-step}
 
 -- numbers that far apart, moved by one amount and clamped between limits that far apart
 clamps-apart : (h c x d hl hh cl ch : ℤ) → cl ≤ℤ ch → (hl +ℤ d) ≤ℤ cl → (hh +ℤ d) ≤ℤ ch → (h +ℤ d) ≤ℤ c → (clampZ (h +ℤ x) hl hh +ℤ d) ≤ℤ clampZ (c +ℤ x) cl ch
@@ -86,18 +84,6 @@ same-amount cfg d r a e k heat cool h c =
     )
 
 -- on a sound record Both is done
-both-done : (cfg : Config) (r : Controller) (d : Readings) (a : Tenths) → sound cfg r ≡ true → step cfg r d (RaiseLowerSetpoint 2 a) ≡ applied cfg d (raiseBoth cfg d a (armedClock cfg d r))
-unfolding step raiseLowerSetpoint raiseSides namesAbsentSide unless
-both-done cfg r d a e = simp e
-
-pub both-at-targets : BothAtTargets
-unfolding applied askSweep raiseBoth claimSetpoints armedClock
-both-at-targets cfg s l a d ok z =
-    let v = valid cfg ok in
-    let r = run cfg (opened cfg s .rec) l in
-    let g = run-good cfg v l (opened cfg s .rec) (opened-good cfg s ok) in
-    let k = run-gap cfg v l (opened cfg s .rec) false (opened-good cfg s ok) (λ e. opened-gap cfg s ok) z in
-    let e = both-done cfg r d a (is-good cfg r ok g) in (
-      ap (λ (o : Outcome). o .rec .attrs .settings .heating) e ∙ heating-at-target cfg r a (is-good cfg r ok g) k,
-      ap (λ (o : Outcome). o .rec .attrs .settings .cooling) e,
-    )
+pub both-done : (cfg : Config) (r : Controller) (d : Readings) (a : Tenths) → sound cfg r ≡ true → step cfg r d (RaiseLowerSetpoint 2 a) ≡ applied cfg d (raiseBoth cfg d a (armedClock cfg d r))
+unfolding stepSound raiseLowerSetpoint raiseSides namesAbsentSide unless
+both-done cfg r d a e = sound-step cfg r d (RaiseLowerSetpoint 2 a) e

@@ -12,17 +12,18 @@ use Rattle.model.specs.Refusals.{Row, row, unless, numbered}
 use Rattle.model.specs.Attribution.{armedClock}
 use Rattle.model.specs.Writes.{applied, writeOccupiedHeatingSetpoint, writeOccupiedCoolingSetpoint, writeMinHeatSetpointLimit, writeMaxHeatSetpointLimit, writeMinCoolSetpointLimit, writeMaxCoolSetpointLimit, writeSystemMode, setControlSequenceOfOperation, armClock}
 use Rattle.model.specs.RaiseLower.{namesAbsentSide, raiseSides, raiseLowerSetpoint}
-use Rattle.model.specs.Messages.{messageTaken, heatingMessage, coolingMessage, modeMessage, limitsMessage, outOfBandMessage}
+use Rattle.model.specs.Messages.{outOfBandMessage, heatingMessage, coolingMessage, modeMessage, limitsMessage}
 use Rattle.model.specs.Sweep.{noticeTable, tableNotices, sweepEvents, swept, notify, sweep, timer, seedEvents, deadline}
 use Rattle.model.specs.Validation.{validated, accepted}
-use Rattle.model.specs.Step.{opened, step}
+use Rattle.model.specs.Step.{opened, step, stepSound}
 use Rattle.model.specs.Laws.{Refused, DoneOrRefused, OpenedOrRefused, UnsoundRefused}
-use Rattle.model.specs.Sound.{sound, unsound}
+use Rattle.model.specs.Sound.{sound}
 use Rattle.records.specs.declared.Config.{Config}
 use Rattle.records.specs.declared.Controller.{Controller}
 use Rattle.records.specs.declared.Readings.{Readings}
 use Rattle.records.specs.declared.OutOfBandMessage.{OutOfBandMessage}
 use Rattle.records.specs.declared.OutOfBandMessage.the-variants.{LocalTemperature, RunningState, Update, OccupiedHeatingSetpoint, OccupiedCoolingSetpoint, SystemMode, SetpointLimits}
+use Rattle.records.specs.declared.Call.{Call}
 use Rattle.records.specs.declared.Call.the-variants.{WriteOccupiedHeatingSetpoint, WriteOccupiedCoolingSetpoint, WriteMinHeatSetpointLimit, WriteMaxHeatSetpointLimit, WriteMinCoolSetpointLimit, WriteMaxCoolSetpointLimit, WriteSystemMode, SetControlSequenceOfOperation, RaiseLowerSetpoint, ArmClock, OutOfBand, SeedEvents, Sweep, Timer, Deadline}
 use Rattle.model.proofs.Logic.{by-cond, by-refusal}
 
@@ -40,7 +41,7 @@ module _ (cfg : Config) (r : Controller) (d : Readings) where
   raise-guarded false true o h = inr (eqb-false 23 0 refl, inr (inl refl, refl))
   raise-guarded false false o h = h
 
-  message : (m : OutOfBandMessage) → Either (messageTaken cfg r m)
+  message : (m : OutOfBandMessage) → Either (outOfBandMessage cfg r m)
   unfolding heatingMessage coolingMessage modeMessage limitsMessage
   message LocalTemperature = inl refl
   message RunningState = inl refl
@@ -59,47 +60,39 @@ module _ (cfg : Config) (r : Controller) (d : Readings) where
       go false true = refl
       go false false = refl
 
+-- on a record that passes row 28
+sound-done : (cfg : Config) (r : Controller) (d : Readings) (k : Call) → Either cfg r d (stepSound cfg r d k)
+unfolding stepSound writeOccupiedHeatingSetpoint writeOccupiedCoolingSetpoint writeMinHeatSetpointLimit writeMaxHeatSetpointLimit writeMinCoolSetpointLimit writeMaxCoolSetpointLimit writeSystemMode setControlSequenceOfOperation raiseLowerSetpoint armClock seedEvents sweep timer deadline applied
+sound-done cfg r d (WriteOccupiedHeatingSetpoint v) = guarded cfg r d _ _ refl (inl refl)
+sound-done cfg r d (WriteOccupiedCoolingSetpoint v) = guarded cfg r d _ _ refl (inl refl)
+sound-done cfg r d (WriteMinHeatSetpointLimit v) = guarded cfg r d _ _ refl (inl refl)
+sound-done cfg r d (WriteMaxHeatSetpointLimit v) = guarded cfg r d _ _ refl (inl refl)
+sound-done cfg r d (WriteMinCoolSetpointLimit v) = guarded cfg r d _ _ refl (inl refl)
+sound-done cfg r d (WriteMaxCoolSetpointLimit v) = guarded cfg r d _ _ refl (inl refl)
+sound-done cfg r d (WriteSystemMode v) = guarded cfg r d _ _ refl (inl refl)
+sound-done cfg r d (SetControlSequenceOfOperation v) = inl refl
+sound-done cfg r d (RaiseLowerSetpoint mode amount) =
+    raise-guarded cfg r d (ltb 2 mode) (namesAbsentSide cfg mode) (applied cfg d (raiseSides cfg d mode amount (armedClock cfg d r))) (inl refl)
+sound-done cfg r d ArmClock = inl refl
+sound-done cfg r d (OutOfBand m) = message cfg r d m
+sound-done cfg r d SeedEvents = inl refl
+sound-done cfg r d Sweep = guarded cfg r d _ _ refl (inl (swept-done cfg r d))
+sound-done cfg r d Timer = guarded cfg r d _ _ refl (inl refl)
+sound-done cfg r d Deadline = inl refl
+
 pub done-or-refused : DoneOrRefused
-unfolding step writeOccupiedHeatingSetpoint writeOccupiedCoolingSetpoint writeMinHeatSetpointLimit writeMaxHeatSetpointLimit writeMinCoolSetpointLimit writeMaxCoolSetpointLimit writeSystemMode setControlSequenceOfOperation raiseLowerSetpoint armClock outOfBandMessage seedEvents sweep timer deadline applied
-done-or-refused cfg r d (WriteOccupiedHeatingSetpoint v) = guarded cfg r d _ _ refl (inl refl)
-done-or-refused cfg r d (WriteOccupiedCoolingSetpoint v) = guarded cfg r d _ _ refl (inl refl)
-done-or-refused cfg r d (WriteMinHeatSetpointLimit v) = guarded cfg r d _ _ refl (inl refl)
-done-or-refused cfg r d (WriteMaxHeatSetpointLimit v) = guarded cfg r d _ _ refl (inl refl)
-done-or-refused cfg r d (WriteMinCoolSetpointLimit v) = guarded cfg r d _ _ refl (inl refl)
-done-or-refused cfg r d (WriteMaxCoolSetpointLimit v) = guarded cfg r d _ _ refl (inl refl)
-done-or-refused cfg r d (WriteSystemMode v) = guarded cfg r d _ _ refl (inl refl)
-done-or-refused cfg r d (SetControlSequenceOfOperation v) = guarded cfg r d _ _ refl (inl refl)
-done-or-refused cfg r d (RaiseLowerSetpoint mode amount) =
-    guarded cfg r d _ _ refl (raise-guarded cfg r d (ltb 2 mode) (namesAbsentSide cfg mode) (applied cfg d (raiseSides cfg d mode amount (armedClock cfg d r))) (inl refl))
-done-or-refused cfg r d ArmClock = guarded cfg r d _ _ refl (inl refl)
-done-or-refused cfg r d (OutOfBand m) = guarded cfg r d _ _ refl (message cfg r d m)
-done-or-refused cfg r d SeedEvents = guarded cfg r d _ _ refl (inl refl)
-done-or-refused cfg r d Sweep = guarded cfg r d _ _ refl (inl (swept-done cfg r d))
-done-or-refused cfg r d Timer = guarded cfg r d _ _ refl (inl refl)
-done-or-refused cfg r d Deadline = guarded cfg r d _ _ refl (inl refl)
+unfolding step
+done-or-refused cfg r d k = guarded cfg r d _ _ refl (sound-done cfg r d k)
+
+-- on a record that passes row 28 a call is what its own definition says
+pub sound-step : (cfg : Config) (r : Controller) (d : Readings) (k : Call) → sound cfg r ≡ true → step cfg r d k ≡ stepSound cfg r d k
+unfolding step unless
+sound-step cfg r d k e = simp e
 
 -- 28 first
-first-28 : (cfg : Config) (r : Controller) (ws : List Row) (o : Outcome) → sound cfg r ≡ false → unless (unsound cfg r ∷ ws) r o ≡ quiet 28 r
-unfolding unless
-first-28 cfg r ws o e = simp e
-
 pub unsound-refused : UnsoundRefused
-unfolding step writeOccupiedHeatingSetpoint writeOccupiedCoolingSetpoint writeMinHeatSetpointLimit writeMaxHeatSetpointLimit writeMinCoolSetpointLimit writeMaxCoolSetpointLimit writeSystemMode setControlSequenceOfOperation raiseLowerSetpoint armClock outOfBandMessage seedEvents sweep timer deadline
-unsound-refused cfg r d (WriteOccupiedHeatingSetpoint v) e = first-28 cfg r _ _ e
-unsound-refused cfg r d (WriteOccupiedCoolingSetpoint v) e = first-28 cfg r _ _ e
-unsound-refused cfg r d (WriteMinHeatSetpointLimit v) e = first-28 cfg r _ _ e
-unsound-refused cfg r d (WriteMaxHeatSetpointLimit v) e = first-28 cfg r _ _ e
-unsound-refused cfg r d (WriteMinCoolSetpointLimit v) e = first-28 cfg r _ _ e
-unsound-refused cfg r d (WriteMaxCoolSetpointLimit v) e = first-28 cfg r _ _ e
-unsound-refused cfg r d (WriteSystemMode v) e = first-28 cfg r _ _ e
-unsound-refused cfg r d (SetControlSequenceOfOperation v) e = first-28 cfg r _ _ e
-unsound-refused cfg r d (RaiseLowerSetpoint mode amount) e = first-28 cfg r _ _ e
-unsound-refused cfg r d ArmClock e = first-28 cfg r _ _ e
-unsound-refused cfg r d (OutOfBand m) e = first-28 cfg r _ _ e
-unsound-refused cfg r d SeedEvents e = first-28 cfg r _ _ e
-unsound-refused cfg r d Sweep e = first-28 cfg r _ _ e
-unsound-refused cfg r d Timer e = first-28 cfg r _ _ e
-unsound-refused cfg r d Deadline e = first-28 cfg r _ _ e
+unfolding step unless
+unsound-refused cfg r d k e = simp e
 
 -- a refused opening returns its row's number and blank
 pub opened-or-refused : OpenedOrRefused

@@ -24,18 +24,18 @@ use Rattle.model.proofs.Valid.{Valid, valid}
 use Rattle.model.proofs.Chain.{Ordered, heating-between, cooling-between, heat-ordered, cool-ordered, gaps}
 use Rattle.model.proofs.Repair.{Settled, by-formula, points-settled, repair-settled, repair-mode}
 
-same-settings : (s : Settings) → sameSettings s s ≡ true
+pub same-settings : (s : Settings) → sameSettings s s ≡ true
 unfolding sameSettings equal
 same-settings s =
     let same : (z : ℤ) → eqZ z z ≡ true = λ z. omega linear in
     simp (same (s .heating .0), same (s .cooling .0), same (s .minheat .0), same (s .maxheat .0), same (s .mincool .0), same (s .maxcool .0), eq-eqb (s .mode) (s .mode) refl)
 
-or-false : (b : Bool) → b || false ≡ b
+pub or-false : (b : Bool) → b || false ≡ b
 or-false true = refl
 or-false false = refl
 
 -- a store of what is there leaves settings and dirty mark
-stored-same : (a : Attrs) → updated a (a .settings) ≡ a
+pub stored-same : (a : Attrs) → updated a (a .settings) ≡ a
 stored-same a = ap (λ (d : Bool). record { settings = a .settings; dirty = d }) (ap (λ (b : Bool). a .dirty || not b) (same-settings (a .settings)) ∙ or-false (a .dirty))
 
 -- a step that asks for the number that is there, within its limits

@@ -7,7 +7,7 @@ use Prim.Native.Nat.{ℕ, _≤_}
 use lib.ListN.{length, take}
 use Rattle.records.specs.Records.{blank}
 use Rattle.model.specs.Answers.{Outcome, slot, answer, quiet}
-use Rattle.model.specs.Refusals.{Row, FirstCause, Clear}
+use Rattle.model.specs.Refusals.{Row, noneFails, FirstCause, Clear}
 use Rattle.model.specs.Attribution.{armedClock}
 use Rattle.model.specs.Validation.{validationRows, validated, accepted}
 use Rattle.model.specs.Sound.{sound}
@@ -63,6 +63,10 @@ OwnCase = (cfg : Config) (r : Controller) (d : Readings) (k : Call) → ByRows (
 
 abbrev pub OpeningOwnCase : Type 0
 OpeningOwnCase = (cfg : Config) (s : Settings) → ByRows (opened cfg s .number) (validationRows cfg)
+
+-- a configuration is accepted exactly where no row of 1 to 21 fails
+abbrev pub AcceptedByRows : Type 0
+AcceptedByRows = (cfg : Config) → accepted cfg ≡ noneFails (validationRows cfg)
 
 -- opening and every call leave a record that passes row 28
 abbrev pub OpenedSound : Type 0

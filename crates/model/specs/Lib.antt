@@ -19,8 +19,9 @@ pub mod LocalChange
 pub mod Sweep
 pub mod Causes
 pub mod Step
+pub mod Lists
+pub mod Plans
 pub mod Plant
 pub mod Laws
-pub mod Claims
 pub mod Examples
 pub mod Everything

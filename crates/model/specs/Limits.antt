@@ -1,4 +1,5 @@
 -- Document 01, Limits in force: the stored pair if the side's four limit attributes are served, else ABS_MIN and ABS_MAX.
+use mathlib.Core.Path.{_≡_}
 use mathlib.Core.Bool.{Bool, cond}
 use Rattle.units.specs.Units.{clamped, within}
 use Rattle.units.specs.declared.Hundredths.{Hundredths}
@@ -32,3 +33,10 @@ clampHeatSetpoint cfg s v = clamped v (minHeatSetpoint cfg s) (maxHeatSetpoint c
 
 unfoldable pub clampCoolSetpoint : Config → Settings → Wide → Hundredths
 clampCoolSetpoint cfg s v = clamped v (minCoolSetpoint cfg s) (maxCoolSetpoint cfg s)
+
+-- equal limits in force
+pub record EqualLimits (cfg : Config) (s t : Settings) : Type 0 where
+  pub min-heat : minHeatSetpoint cfg s ≡ minHeatSetpoint cfg t
+  pub max-heat : maxHeatSetpoint cfg s ≡ maxHeatSetpoint cfg t
+  pub min-cool : minCoolSetpoint cfg s ≡ minCoolSetpoint cfg t
+  pub max-cool : maxCoolSetpoint cfg s ≡ maxCoolSetpoint cfg t

@@ -11,7 +11,6 @@ use Rattle.model.specs.Refusals.{row, unless}
 use Rattle.model.specs.Limits.{clampHeatSetpoint, clampCoolSetpoint}
 use Rattle.model.specs.Modes.{isSupportedSystemMode}
 use Rattle.model.specs.Repair.{repairedRecord}
-use Rattle.model.specs.Sound.{unsound}
 use Rattle.records.specs.declared.Config.{Config}
 use Rattle.records.specs.declared.Attrs.{Attrs}
 use Rattle.records.specs.declared.Controller.{Controller}
@@ -47,14 +46,11 @@ limitsMessage cfg r minh maxh minc maxc =
     withRecord (repairedRecord cfg r (limitsTaken cfg (r .attrs) minh maxh minc maxc)) (λ (q : Controller). raiseBits q 0x0F0)
 
 -- the other three store nothing: temperature has bit 0, running state bit 8, update both
-abbrev pub messageTaken : Config → Controller → OutOfBandMessage → Outcome
-messageTaken cfg r LocalTemperature = quiet 0 (raiseBits r 0x001)
-messageTaken cfg r RunningState = quiet 0 (raiseBits r 0x100)
-messageTaken cfg r Update = quiet 0 (raiseBits r 0x101)
-messageTaken cfg r (OccupiedHeatingSetpoint v) = heatingMessage cfg r v
-messageTaken cfg r (OccupiedCoolingSetpoint v) = coolingMessage cfg r v
-messageTaken cfg r (SystemMode v) = modeMessage cfg r v
-messageTaken cfg r (SetpointLimits minh maxh minc maxc) = limitsMessage cfg r minh maxh minc maxc
-
-unfoldable pub outOfBandMessage : Config → Controller → OutOfBandMessage → Outcome
-outOfBandMessage cfg r m = unless (unsound cfg r ∷ []) r (messageTaken cfg r m)
+abbrev pub outOfBandMessage : Config → Controller → OutOfBandMessage → Outcome
+outOfBandMessage cfg r LocalTemperature = quiet 0 (raiseBits r 0x001)
+outOfBandMessage cfg r RunningState = quiet 0 (raiseBits r 0x100)
+outOfBandMessage cfg r Update = quiet 0 (raiseBits r 0x101)
+outOfBandMessage cfg r (OccupiedHeatingSetpoint v) = heatingMessage cfg r v
+outOfBandMessage cfg r (OccupiedCoolingSetpoint v) = coolingMessage cfg r v
+outOfBandMessage cfg r (SystemMode v) = modeMessage cfg r v
+outOfBandMessage cfg r (SetpointLimits minh maxh minc maxc) = limitsMessage cfg r minh maxh minc maxc

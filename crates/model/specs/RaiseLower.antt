@@ -1,16 +1,15 @@
 -- Document 01, Writes: raise/lower. Both is RaiseBoth's.
 use mathlib.Core.Bool.{Bool, not, _&&_, _||_, cond}
-use mathlib.Core.List.{[], _∷_}
+use mathlib.Core.List.{List, [], _∷_}
 use Prim.Native.Nat.{ℕ}
 use lib.Dec.{eqb, ltb}
 use Rattle.units.specs.Units.{raised}
 use Rattle.units.specs.declared.Tenths.{Tenths}
 use Rattle.model.specs.Answers.{Outcome, Stage}
-use Rattle.model.specs.Refusals.{row, unless}
+use Rattle.model.specs.Refusals.{Row, row, unless}
 use Rattle.model.specs.Served.{heats, cools}
 use Rattle.model.specs.Limits.{minHeatSetpoint, maxHeatSetpoint, minCoolSetpoint, maxCoolSetpoint}
 use Rattle.model.specs.Attribution.{external, armedClock}
-use Rattle.model.specs.Sound.{unsound}
 use Rattle.model.specs.Writes.{applied, storeHeatingSetpoint, storeCoolingSetpoint}
 use Rattle.model.specs.RaiseBoth.{raiseBoth}
 use Rattle.records.specs.declared.Config.{Config}
@@ -36,9 +35,11 @@ raiseSides cfg d mode amount r = cond (eqb mode 0) (raiseHeating cfg d amount r)
 unfoldable pub namesAbsentSide : Config → ℕ → Bool
 namesAbsentSide cfg mode = (eqb mode 0 && not (heats cfg)) || (eqb mode 1 && not (cools cfg))
 
+abbrev pub raiseRows : Config → ℕ → List Row
+raiseRows cfg mode = row 25 (ltb 2 mode) ∷ row 23 (namesAbsentSide cfg mode) ∷ []
+
 -- raise/lower arms first, so 25 and 23 keep the newly armed clock
 unfoldable pub raiseLowerSetpoint : Config → Controller → Readings → ℕ → Tenths → Outcome
 raiseLowerSetpoint cfg r d mode amount =
     let a = armedClock cfg d r in
-    unless (unsound cfg r ∷ []) r
-    (unless (row 25 (ltb 2 mode) ∷ row 23 (namesAbsentSide cfg mode) ∷ []) a (applied cfg d (raiseSides cfg d mode amount a)))
+    unless (raiseRows cfg mode) a (applied cfg d (raiseSides cfg d mode amount a))

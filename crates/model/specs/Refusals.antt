@@ -1,7 +1,7 @@
 -- Document 01, Causes and answers: numbered causes in order, the first that holds wins.
 use mathlib.Core.Path.{_≡_}
 use mathlib.Core.Logic.{_⊎_}
-use mathlib.Core.Bool.{Bool, true, false, _&&_, cond}
+use mathlib.Core.Bool.{Bool, true, false, not, _&&_, cond}
 use mathlib.Core.List.{List, [], _∷_}
 use Prim.Native.Nat.{ℕ}
 use lib.Dec.{ltb}
@@ -30,6 +30,11 @@ thenRows (w ∷ ws) rest = cond (w .cause) (w .number) (thenRows ws rest)
 unfoldable pub unless : List Row → Controller → Outcome → Outcome
 unless [] r o = o
 unless (w ∷ ws) r o = cond (w .cause) (quiet (w .number) r) (unless ws r o)
+
+-- whether no row fails
+unfoldable pub noneFails : List Row → Bool
+noneFails [] = true
+noneFails (w ∷ ws) = not (w .cause) && noneFails ws
 
 -- no cause is there
 abbrev pub Clear : List Row → Type 0

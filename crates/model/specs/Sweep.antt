@@ -13,7 +13,7 @@ use Rattle.model.specs.Modes.{runningState, runningMode}
 use Rattle.model.specs.Temperature.{significant, eventDue, reportedTemperature}
 use Rattle.model.specs.Attribution.{manual, recorded, armedClock, withAttributed, servedSetpoints, claimSetpoints}
 use Rattle.model.specs.LocalChange.{localChange}
-use Rattle.model.specs.Sound.{lastClock, unsound}
+use Rattle.model.specs.Sound.{lastClock}
 use Rattle.model.specs.Writes.{sourceNotices}
 use Rattle.records.specs.declared.Config.{Config}
 use Rattle.records.specs.declared.Temperature.{Temperature}
@@ -155,7 +155,7 @@ late d = row 27 (ltb lastClock (d .clock))
 -- the timer: events only
 unfoldable pub timer : Config → Controller → Readings → Outcome
 timer cfg r d =
-    unless (unsound cfg r ∷ late d ∷ []) r
+    unless (late d ∷ []) r
     (record { number = 0; rec = takeEvents cfg d r .rec; order = NoOrder; notices = []; events = takeEvents cfg d r .events; deadline = Never })
 
 -- with bit 9 a sweep arms, attributes a local change and takes events
@@ -175,11 +175,11 @@ swept cfg d r =
     (cond (listed (r .pending) 9) (sweepEvents cfg d notices (withPending r 0)) (notify 0 (withPending r 0) notices))
 
 unfoldable pub sweep : Config → Controller → Readings → Outcome
-sweep cfg r d = unless (unsound cfg r ∷ late d ∷ []) r (swept cfg d r)
+sweep cfg r d = unless (late d ∷ []) r (swept cfg d r)
 
 -- start, as a call
 unfoldable pub seedEvents : Config → Controller → Readings → Outcome
-seedEvents cfg r d = unless (unsound cfg r ∷ []) r (quiet 0 (started cfg d r))
+seedEvents cfg r d = quiet 0 (started cfg d r)
 
 -- last + 60,000 ms while a significant change waits; none without a snapshot, a last event or the served event
 abbrev pub deadlineAfter : Bool → Moment → Moment
@@ -195,6 +195,4 @@ unfoldable pub deferredDeadline : Config → Readings → Controller → Moment
 deferredDeadline cfg d r = deadlineAfter (waiting cfg d (r .events .shadow)) (r .events .last)
 
 unfoldable pub deadline : Config → Controller → Readings → Outcome
-deadline cfg r d =
-    unless (unsound cfg r ∷ []) r
-    (record { number = 0; rec = r; order = NoOrder; notices = []; events = []; deadline = deferredDeadline cfg d r })
+deadline cfg r d = record { number = 0; rec = r; order = NoOrder; notices = []; events = []; deadline = deferredDeadline cfg d r }

@@ -14,7 +14,6 @@ use Rattle.model.specs.Limits.{minHeatSetpoint, maxHeatSetpoint, minCool
 use Rattle.model.specs.Modes.{isSupportedSystemMode, runningState}
 use Rattle.model.specs.Attribution.{external, recorded, armedClock, claimSetpoints}
 use Rattle.model.specs.Orders.{orderOf, askSweep}
-use Rattle.model.specs.Sound.{unsound}
 use Rattle.records.specs.declared.Config.{Config}
 use Rattle.records.specs.declared.Settings.{Settings}
 use Rattle.records.specs.declared.Attrs.{Attrs}
@@ -87,17 +86,17 @@ abbrev pub unserved : Config → ℕ → Row
 unserved cfg code = row 24 (not (serves cfg code))
 
 -- a setpoint write must lie within the limits in force
+abbrev pub heatingRows : Config → Settings → Hundredths → List Row
+heatingRows cfg s v = unserved cfg 0x12 ∷ row 22 (not (inHeatLimits cfg s v)) ∷ []
+
+abbrev pub coolingRows : Config → Settings → Hundredths → List Row
+coolingRows cfg s v = unserved cfg 0x11 ∷ row 22 (not (inCoolLimits cfg s v)) ∷ []
+
 unfoldable pub writeOccupiedHeatingSetpoint : Config → Controller → Readings → Hundredths → Outcome
-writeOccupiedHeatingSetpoint cfg r d v =
-    let s = r .attrs .settings in
-    unless (unsound cfg r ∷ unserved cfg 0x12 ∷ row 22 (not (inHeatLimits cfg s v)) ∷ []) r
-    (applied cfg d (storeHeatingSetpoint cfg d external v r))
+writeOccupiedHeatingSetpoint cfg r d v = unless (heatingRows cfg (r .attrs .settings) v) r (applied cfg d (storeHeatingSetpoint cfg d external v r))
 
 unfoldable pub writeOccupiedCoolingSetpoint : Config → Controller → Readings → Hundredths → Outcome
-writeOccupiedCoolingSetpoint cfg r d v =
-    let s = r .attrs .settings in
-    unless (unsound cfg r ∷ unserved cfg 0x11 ∷ row 22 (not (inCoolLimits cfg s v)) ∷ []) r
-    (applied cfg d (storeCoolingSetpoint cfg d external v r))
+writeOccupiedCoolingSetpoint cfg r d v = unless (coolingRows cfg (r .attrs .settings) v) r (applied cfg d (storeCoolingSetpoint cfg d external v r))
 
 -- a limit pulls its setpoint in: a setpoint outside the limits in force is stored at the nearest one
 unfoldable pub pullHeating : Config → Readings → Controller → Stage
@@ -118,8 +117,8 @@ pullSide true = pullHeating
 pullSide false = pullCooling
 
 -- a limit write: refused where its attribute is unserved or its value is outside its rule; else the limit is stored and noticed, then pulls
-abbrev pub limitWriteRows : Config → Controller → ℕ → Bool → List Row
-limitWriteRows cfg r code refused = unsound cfg r ∷ unserved cfg code ∷ row 22 refused ∷ []
+abbrev pub limitWriteRows : Config → ℕ → Bool → List Row
+limitWriteRows cfg code refused = unserved cfg code ∷ row 22 refused ∷ []
 
 abbrev pub limitStored : Config → Controller → Attrs → ℕ → Stage
 limitStored cfg r a code = record { rec = withAttrs r a; notices = noticed cfg code }
@@ -138,54 +137,57 @@ coolLimitRefused cfg v lo hi other = not (within v lo hi) || (auto cfg && below 
 abbrev pub minHeatRefused : Config → Settings → Hundredths → Bool
 minHeatRefused cfg s v = heatLimitRefused cfg v (cfg .absminheat) (s .maxheat) (minCoolSetpoint cfg s)
 
-abbrev pub minHeatRows : Config → Controller → Hundredths → List Row
-minHeatRows cfg r v = limitWriteRows cfg r 0x15 (minHeatRefused cfg (r .attrs .settings) v)
+abbrev pub minHeatRows : Config → Settings → Hundredths → List Row
+minHeatRows cfg s v = limitWriteRows cfg 0x15 (minHeatRefused cfg s v)
 
 unfoldable pub writeMinHeatSetpointLimit : Config → Controller → Readings → Hundredths → Outcome
-writeMinHeatSetpointLimit cfg r d v = limitWrite cfg r d (minHeatRows cfg r v) (limitStored cfg r (setMinHeat (r .attrs) v) 0x15) (pullHeating cfg d)
+writeMinHeatSetpointLimit cfg r d v = limitWrite cfg r d (minHeatRows cfg (r .attrs .settings) v) (limitStored cfg r (setMinHeat (r .attrs) v) 0x15) (pullHeating cfg d)
 
 -- nor a maximum the reverse
 abbrev pub maxHeatRefused : Config → Settings → Hundredths → Bool
 maxHeatRefused cfg s v = heatLimitRefused cfg v (s .minheat) (cfg .absmaxheat) (maxCoolSetpoint cfg s)
 
-abbrev pub maxHeatRows : Config → Controller → Hundredths → List Row
-maxHeatRows cfg r v = limitWriteRows cfg r 0x16 (maxHeatRefused cfg (r .attrs .settings) v)
+abbrev pub maxHeatRows : Config → Settings → Hundredths → List Row
+maxHeatRows cfg s v = limitWriteRows cfg 0x16 (maxHeatRefused cfg s v)
 
 unfoldable pub writeMaxHeatSetpointLimit : Config → Controller → Readings → Hundredths → Outcome
-writeMaxHeatSetpointLimit cfg r d v = limitWrite cfg r d (maxHeatRows cfg r v) (limitStored cfg r (setMaxHeat (r .attrs) v) 0x16) (pullHeating cfg d)
+writeMaxHeatSetpointLimit cfg r d v = limitWrite cfg r d (maxHeatRows cfg (r .attrs .settings) v) (limitStored cfg r (setMaxHeat (r .attrs) v) 0x16) (pullHeating cfg d)
 
 abbrev pub minCoolRefused : Config → Settings → Hundredths → Bool
 minCoolRefused cfg s v = coolLimitRefused cfg v (cfg .absmincool) (s .maxcool) (minHeatSetpoint cfg s)
 
-abbrev pub minCoolRows : Config → Controller → Hundredths → List Row
-minCoolRows cfg r v = limitWriteRows cfg r 0x17 (minCoolRefused cfg (r .attrs .settings) v)
+abbrev pub minCoolRows : Config → Settings → Hundredths → List Row
+minCoolRows cfg s v = limitWriteRows cfg 0x17 (minCoolRefused cfg s v)
 
 unfoldable pub writeMinCoolSetpointLimit : Config → Controller → Readings → Hundredths → Outcome
-writeMinCoolSetpointLimit cfg r d v = limitWrite cfg r d (minCoolRows cfg r v) (limitStored cfg r (setMinCool (r .attrs) v) 0x17) (pullCooling cfg d)
+writeMinCoolSetpointLimit cfg r d v = limitWrite cfg r d (minCoolRows cfg (r .attrs .settings) v) (limitStored cfg r (setMinCool (r .attrs) v) 0x17) (pullCooling cfg d)
 
 abbrev pub maxCoolRefused : Config → Settings → Hundredths → Bool
 maxCoolRefused cfg s v = coolLimitRefused cfg v (s .mincool) (cfg .absmaxcool) (maxHeatSetpoint cfg s)
 
-abbrev pub maxCoolRows : Config → Controller → Hundredths → List Row
-maxCoolRows cfg r v = limitWriteRows cfg r 0x18 (maxCoolRefused cfg (r .attrs .settings) v)
+abbrev pub maxCoolRows : Config → Settings → Hundredths → List Row
+maxCoolRows cfg s v = limitWriteRows cfg 0x18 (maxCoolRefused cfg s v)
 
 unfoldable pub writeMaxCoolSetpointLimit : Config → Controller → Readings → Hundredths → Outcome
-writeMaxCoolSetpointLimit cfg r d v = limitWrite cfg r d (maxCoolRows cfg r v) (limitStored cfg r (setMaxCool (r .attrs) v) 0x18) (pullCooling cfg d)
+writeMaxCoolSetpointLimit cfg r d v = limitWrite cfg r d (maxCoolRows cfg (r .attrs .settings) v) (limitStored cfg r (setMaxCool (r .attrs) v) 0x18) (pullCooling cfg d)
 
 -- SYSTEM_MODE last, always
 abbrev pub thenNoticed : Config → ℕ → Outcome → Outcome
 thenNoticed cfg code o = record { number = o .number; rec = o .rec; order = o .order; notices = o .notices ++ noticed cfg code; events = o .events; deadline = o .deadline }
 
 -- a mode write must be supported
+abbrev pub modeRows : Config → ℕ → List Row
+modeRows cfg v = row 22 (not (isSupportedSystemMode cfg v)) ∷ []
+
 unfoldable pub writeSystemMode : Config → Controller → Readings → ℕ → Outcome
 writeSystemMode cfg r d v =
-    unless (unsound cfg r ∷ row 22 (not (isSupportedSystemMode cfg v)) ∷ []) r
+    unless (modeRows cfg v) r
     (thenNoticed cfg 0x1C (applied cfg d (unchanged (withAttrs r (setMode (r .attrs) v)))))
 
 -- accepts and changes nothing
 unfoldable pub setControlSequenceOfOperation : Config → Controller → ℕ → Outcome
-setControlSequenceOfOperation cfg r v = unless (unsound cfg r ∷ []) r (quiet 0 r)
+setControlSequenceOfOperation cfg r v = quiet 0 r
 
 -- arming, as a call
 unfoldable pub armClock : Config → Controller → Readings → Outcome
-armClock cfg r d = unless (unsound cfg r ∷ []) r (quiet 0 (armedClock cfg d r))
+armClock cfg r d = quiet 0 (armedClock cfg d r)

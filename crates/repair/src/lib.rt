@@ -12,8 +12,8 @@ fn clamp_min_heat(cfg: Config, a: Attrs) -> Attrs
 {
     if served::has_heat_limits(cfg) {
         let mut s = a.settings;
-        s.minheat = ranges::clamp(units::widen(s.minheat), cfg.absminheat, cfg.absmaxheat);
-        return attrs::update_attrs(a, s);
+        s.minheat = units_ranges::clamp(units::widen(s.minheat), cfg.absminheat, cfg.absmaxheat);
+        return records::update_attrs(a, s);
     }
     a
 }
@@ -23,8 +23,8 @@ fn clamp_max_heat(cfg: Config, a: Attrs) -> Attrs
 {
     if served::has_heat_limits(cfg) {
         let mut s = a.settings;
-        s.maxheat = ranges::clamp(units::widen(s.maxheat), s.minheat, cfg.absmaxheat);
-        return attrs::update_attrs(a, s);
+        s.maxheat = units_ranges::clamp(units::widen(s.maxheat), s.minheat, cfg.absmaxheat);
+        return records::update_attrs(a, s);
     }
     a
 }
@@ -34,8 +34,8 @@ fn clamp_min_cool(cfg: Config, a: Attrs) -> Attrs
 {
     if served::has_cool_limits(cfg) {
         let mut s = a.settings;
-        s.mincool = ranges::clamp(units::widen(s.mincool), cfg.absmincool, cfg.absmaxcool);
-        return attrs::update_attrs(a, s);
+        s.mincool = units_ranges::clamp(units::widen(s.mincool), cfg.absmincool, cfg.absmaxcool);
+        return records::update_attrs(a, s);
     }
     a
 }
@@ -45,8 +45,8 @@ fn clamp_max_cool(cfg: Config, a: Attrs) -> Attrs
 {
     if served::has_cool_limits(cfg) {
         let mut s = a.settings;
-        s.maxcool = ranges::clamp(units::widen(s.maxcool), s.mincool, cfg.absmaxcool);
-        return attrs::update_attrs(a, s);
+        s.maxcool = units_ranges::clamp(units::widen(s.maxcool), s.mincool, cfg.absmaxcool);
+        return records::update_attrs(a, s);
     }
     a
 }
@@ -54,7 +54,7 @@ fn clamp_max_cool(cfg: Config, a: Attrs) -> Attrs
 fn pulls_heat_limits(cfg: Config) -> bool
     ensures { λ r. ⌜ r ≡ auto cfg && hasHeatLimits cfg ⌝ }
 {
-    let auto = features::auto(cfg);
+    let auto = served::auto(cfg);
     let limits = served::has_heat_limits(cfg);
     auto & limits
 }
@@ -65,8 +65,8 @@ fn pull_min_heat(cfg: Config, a: Attrs) -> Attrs
     if pulls_heat_limits(cfg) {
         let mut s = a.settings;
         let w = units::sub(s.mincool, limits::dead_band(cfg));
-        s.minheat = ranges::clamp(w, cfg.absminheat, s.minheat);
-        return attrs::update_attrs(a, s);
+        s.minheat = units_ranges::clamp(w, cfg.absminheat, s.minheat);
+        return records::update_attrs(a, s);
     }
     a
 }
@@ -77,8 +77,8 @@ fn pull_max_heat(cfg: Config, a: Attrs) -> Attrs
     if pulls_heat_limits(cfg) {
         let mut s = a.settings;
         let w = units::sub(s.maxcool, limits::dead_band(cfg));
-        s.maxheat = ranges::clamp(w, s.minheat, s.maxheat);
-        return attrs::update_attrs(a, s);
+        s.maxheat = units_ranges::clamp(w, s.minheat, s.maxheat);
+        return records::update_attrs(a, s);
     }
     a
 }
@@ -86,10 +86,10 @@ fn pull_max_heat(cfg: Config, a: Attrs) -> Attrs
 fn clamp_heating(cfg: Config, a: Attrs) -> Attrs
     ensures { λ r. ⌜ r ≡ spec.clampHeating cfg a ⌝ }
 {
-    if features::heats(cfg) {
+    if served::heats(cfg) {
         let mut s = a.settings;
-        s.heating = clamps::clamp_heat_setpoint(cfg, a.settings, units::widen(s.heating));
-        return attrs::update_attrs(a, s);
+        s.heating = limits::clamp_heat_setpoint(cfg, a.settings, units::widen(s.heating));
+        return records::update_attrs(a, s);
     }
     a
 }
@@ -97,10 +97,10 @@ fn clamp_heating(cfg: Config, a: Attrs) -> Attrs
 fn clamp_cooling(cfg: Config, a: Attrs) -> Attrs
     ensures { λ r. ⌜ r ≡ spec.clampCooling cfg a ⌝ }
 {
-    if features::cools(cfg) {
+    if served::cools(cfg) {
         let mut s = a.settings;
-        s.cooling = clamps::clamp_cool_setpoint(cfg, a.settings, units::widen(s.cooling));
-        return attrs::update_attrs(a, s);
+        s.cooling = limits::clamp_cool_setpoint(cfg, a.settings, units::widen(s.cooling));
+        return records::update_attrs(a, s);
     }
     a
 }
@@ -108,12 +108,12 @@ fn clamp_cooling(cfg: Config, a: Attrs) -> Attrs
 fn push_cooling(cfg: Config, a: Attrs) -> Attrs
     ensures { λ r. ⌜ r ≡ spec.pushCooling cfg a ⌝ }
 {
-    if features::auto(cfg) {
+    if served::auto(cfg) {
         let mut s = a.settings;
         let w = units::add(s.heating, limits::dead_band(cfg));
-        let g = ranges::max(units::widen(s.cooling), w);
-        s.cooling = clamps::clamp_cool_setpoint(cfg, a.settings, g);
-        return attrs::update_attrs(a, s);
+        let g = units_ranges::max(units::widen(s.cooling), w);
+        s.cooling = limits::clamp_cool_setpoint(cfg, a.settings, g);
+        return records::update_attrs(a, s);
     }
     a
 }
@@ -126,7 +126,7 @@ fn repair_mode(cfg: Config, a: Attrs) -> Attrs
     }
     let mut s = a.settings;
     s.mode = system_mode::OFF;
-    attrs::update_attrs(a, s)
+    records::update_attrs(a, s)
 }
 
 fn repair_limits(cfg: Config, a: Attrs) -> Attrs

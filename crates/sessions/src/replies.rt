@@ -28,8 +28,8 @@ pub(crate) fn answer_to(c: Config, r: Controller, line: Line) -> Answer
     match line {
         Line::Open(settings, _) => opening::open(c, settings),
         Line::Call(k, d) => controller::step(c, r, d, k),
-        Line::Record(given) => orders::quiet_answer(answer_number::DONE, given),
-        _ => orders::quiet_answer(answer_number::DONE, r),
+        Line::Record(given) => answers::quiet_answer(answer_number::DONE, given),
+        _ => answers::quiet_answer(answer_number::DONE, r),
     }
 }
 

@@ -5,14 +5,13 @@ use records::Config;
 use records::Controller;
 use records::Moment;
 use records::Settings;
-use records::answer_number;
 
 fn sound_heat_limits(cfg: Config, s: Settings) -> bool
     ensures { λ r. ⌜ r ≡ spec.soundHeatLimits cfg s ⌝ }
 {
     let limits = served::has_heat_limits(cfg);
-    let low = ranges::is_within(s.minheat, cfg.absminheat, s.maxheat);
-    let high = ranges::is_within(s.maxheat, s.minheat, cfg.absmaxheat);
+    let low = units_ranges::is_within(s.minheat, cfg.absminheat, s.maxheat);
+    let high = units_ranges::is_within(s.maxheat, s.minheat, cfg.absmaxheat);
     !limits | (low & high)
 }
 
@@ -20,15 +19,15 @@ fn sound_cool_limits(cfg: Config, s: Settings) -> bool
     ensures { λ r. ⌜ r ≡ spec.soundCoolLimits cfg s ⌝ }
 {
     let limits = served::has_cool_limits(cfg);
-    let low = ranges::is_within(s.mincool, cfg.absmincool, s.maxcool);
-    let high = ranges::is_within(s.maxcool, s.mincool, cfg.absmaxcool);
+    let low = units_ranges::is_within(s.mincool, cfg.absmincool, s.maxcool);
+    let high = units_ranges::is_within(s.maxcool, s.mincool, cfg.absmaxcool);
     !limits | (low & high)
 }
 
 fn sound_gap(cfg: Config, s: Settings) -> bool
     ensures { λ r. ⌜ r ≡ spec.soundGap cfg s ⌝ }
 {
-    let auto = features::auto(cfg);
+    let auto = served::auto(cfg);
     let limits = served::has_heat_limits(cfg);
     let d = limits::dead_band(cfg);
     let low = units::is_above(s.minheat, units::sub(s.mincool, d));
@@ -39,16 +38,16 @@ fn sound_gap(cfg: Config, s: Settings) -> bool
 fn sound_heating(cfg: Config, s: Settings) -> bool
     ensures { λ r. ⌜ r ≡ spec.soundHeating cfg s ⌝ }
 {
-    let heats = features::heats(cfg);
-    let inside = clamps::in_heat_limits(cfg, s, s.heating);
+    let heats = served::heats(cfg);
+    let inside = limits::in_heat_limits(cfg, s, s.heating);
     !heats | inside
 }
 
 fn sound_cooling(cfg: Config, s: Settings) -> bool
     ensures { λ r. ⌜ r ≡ spec.soundCooling cfg s ⌝ }
 {
-    let cools = features::cools(cfg);
-    let inside = clamps::in_cool_limits(cfg, s, s.cooling);
+    let cools = served::cools(cfg);
+    let inside = limits::in_cool_limits(cfg, s, s.cooling);
     !cools | inside
 }
 
@@ -76,10 +75,10 @@ fn sound_last(last: Moment) -> bool
 pub fn is_sound(cfg: Config, r: Controller) -> bool
     ensures { λ q. ⌜ q ≡ spec.sound cfg r ⌝ }
 {
-    let n = validation::validate(cfg);
+    let accepted = validation_acceptance::is_accepted(cfg);
     let settings = sound_settings(cfg, r.attrs.settings);
     let events = r.events;
     let last = events.last;
     let time = sound_last(last);
-    (n == answer_number::DONE) & (settings & time)
+    accepted & (settings & time)
 }

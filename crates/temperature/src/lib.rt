@@ -15,7 +15,7 @@ fn are_apart(a: Hundredths, b: Hundredths, d: Hundredths) -> bool
 {
     let x = units::sub(a, b);
     let y = units::sub(b, a);
-    let u = ranges::max(x, y);
+    let u = units_ranges::max(x, y);
     !units::is_above(d, u)
 }
 
@@ -75,7 +75,7 @@ pub fn local_temperature_event_due(
 pub fn reported_local_temperature(cfg: Config, reading: Temperature) -> Temperature
     ensures { λ r. ⌜ r ≡ reportedTemperature cfg reading ⌝ }
 {
-    if features::local_temperature_not_exposed(cfg) {
+    if served::local_temperature_not_exposed(cfg) {
         return Temperature::NoReading;
     }
     reading

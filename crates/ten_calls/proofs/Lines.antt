@@ -1,5 +1,6 @@
 -- Every line is in the table: the lines of the definitions are its lines, by `acceptance`, and no setpoint there is below 0.
-use mathlib.Core.Path.{_≡_, sym, ap, subst}
+use mathlib.Core.Path.{_≡_, refl, sym, ap, subst}
+use mathlib.Core.Bool.{true}
 use mathlib.Core.List.{List, [], _∷_, List·Memᴰ, List·Memᴰ·head, List·Memᴰ·tail, map, foldl, foldl-append}
 use Prim.Native.Nat.{ℕ, zero, suc, _+_, _≤_, _<_}
 use native.Mathlib.Omega.{arith}
@@ -9,9 +10,12 @@ use lib.ListN.{length, take, getD}
 use lib.Seq.{take-suc}
 use Rattle.integers.specs.Linear.{posPart}
 use Rattle.model.specs.Answers.{Outcome, answer}
-use Rattle.model.specs.Plant.{plant, plantSettings, tenCalls, Line, line, linesFrom}
+use Rattle.model.specs.Everything.{everything}
+use Rattle.model.specs.Sound.{sound}
+use Rattle.model.specs.Plant.{plant, plantSettings, noReadings, tenCalls, Line, line, linesFrom}
 use Rattle.model.specs.Step.{opened}
 use Rattle.model.proofs.Acceptance.{acceptance}
+use Rattle.model.proofs.Kept.{opened-sound, step-sound}
 use Rattle.records.specs.declared.Answer.{Answer}
 use Rattle.records.specs.declared.Call.{Call}
 use Rattle.records.specs.declared.Call.the-variants.{Sweep}
@@ -20,6 +24,15 @@ use Rattle.ten_calls.specs.Lines.{AnswerInTable, called, outcomeAfter}
 pub one-more : (i : ℕ) → i < 9 → outcomeAfter (i + 1) ≡ called (outcomeAfter i) (getD tenCalls i Sweep)
 unfolding outcomeAfter
 one-more i h = rw (add-one, take-suc tenCalls i Sweep) (foldl-append called _ (take i tenCalls) _)
+
+-- opening and every call leave a sound record
+called-sound : (o : Outcome) (ks : List Call) → sound plant (o .rec) ≡ true → sound plant (foldl called o ks .rec) ≡ true
+called-sound o [] h = h
+called-sound o (k ∷ ks) h = called-sound (called o k) ks (step-sound plant (o .rec) noReadings k h)
+
+pub sound-after : (i : ℕ) → sound plant (outcomeAfter i .rec) ≡ true
+unfolding outcomeAfter everything
+sound-after i = called-sound _ (take i tenCalls) (opened-sound plant (plantSettings 2000 2250) refl)
 
 -- line m is that of the outcome after i calls, where the lines begin at n
 lines-have : (m n i : ℕ) (o : Outcome) (ks : List Call) → m ≡ n + i → i ≤ length ks → List·Memᴰ (line m (foldl called o (take i ks))) (linesFrom plant n o ks)

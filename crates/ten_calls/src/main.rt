@@ -31,14 +31,14 @@ fn print_answer(n: u64, a: Answer)
     );
 }
 
-// Call i after the opening, from 0, on the record of the answer before it. The answers are those of the definitions,
-// whose lines are the table by the theorem `Acceptance` of model.
+// Call i after the opening, from 0, on the record of the answer before it, which is held from the opening on: so it is sound.
+// The answers are those of the definitions, whose lines are the table by the theorem `Acceptance` of model.
 fn call(i: u64, before: Answer) -> Answer
     requires { ⌜ (i < 9) × (before ≡ answerOf (outcomeAfter i)) ⌝ }
     ensures { λ r. ⌜ r ≡ answerOf (outcomeAfter (i + 1)) ⌝ }
 {
     let r = before.rec;
-    controller::step(plant::plant(), r, plant::no_readings(), plant::call_at(i))
+    controller::step_sound(plant::plant(), r, plant::no_readings(), plant::call_at(i))
 }
 
 fn main() {

@@ -19,5 +19,5 @@ fn natural(a: Wide) -> u64
 pub(crate) fn size(v: Hundredths) -> u64
     ensures { λ r. ⌜ r ≡ natAbs (v .0) ⌝ }
 {
-    natural(ranges::max(units::widen(v), units::sub(Hundredths::ZERO, v)))
+    natural(units_ranges::max(units::widen(v), units::sub(Hundredths::ZERO, v)))
 }

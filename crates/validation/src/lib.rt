@@ -75,9 +75,9 @@ fn supports_events(cfg: Config) -> bool
 fn validate_features(cfg: Config, rest: u8) -> u8
     ensures { λ r. ⌜ r ≡ thenRows (featureRows cfg) rest ⌝ }
 {
-    let heats = features::heats(cfg);
-    let cools = features::cools(cfg);
-    let auto = features::auto(cfg);
+    let heats = served::heats(cfg);
+    let cools = served::cools(cfg);
+    let auto = served::auto(cfg);
     let known = (cfg.features | feature::SUPPORTED_FEATURES) == feature::SUPPORTED_FEATURES;
     let right = cfg.revision == Config::CLUSTER_REVISION;
     let n4 = row(
@@ -106,9 +106,9 @@ fn validate_attribute(cfg: Config, code: u16, wanted: bool, rest: u8) -> u8
 fn validate_attributes(cfg: Config, rest: u8) -> u8
     ensures { λ r. ⌜ r ≡ thenRows (attributeRows cfg) rest ⌝ }
 {
-    let heats = features::heats(cfg);
-    let cools = features::cools(cfg);
-    let auto = features::auto(cfg);
+    let heats = served::heats(cfg);
+    let cools = served::cools(cfg);
+    let auto = served::auto(cfg);
     let n6 = validate_attribute(cfg, attribute_id::MIN_SETPOINT_DEAD_BAND, auto, rest);
     let n5 = validate_attribute(cfg, attribute_id::OCCUPIED_COOLING_SETPOINT, cools, n6);
     let n4 = validate_attribute(cfg, attribute_id::OCCUPIED_HEATING_SETPOINT, heats, n5);
@@ -121,9 +121,9 @@ fn validate_attributes(cfg: Config, rest: u8) -> u8
 fn validate_limit_sets(cfg: Config, rest: u8) -> u8
     ensures { λ r. ⌜ r ≡ thenRows (limitRows cfg) rest ⌝ }
 {
-    let heats = features::heats(cfg);
-    let cools = features::cools(cfg);
-    let auto = features::auto(cfg);
+    let heats = served::heats(cfg);
+    let cools = served::cools(cfg);
+    let auto = served::auto(cfg);
     let heat = served::has_heat_limits(cfg);
     let cool = served::has_cool_limits(cfg);
     let some_heat = has_some_heat_limit(cfg);
@@ -174,8 +174,8 @@ fn validate_event(cfg: Config, code: u16, applies: bool, rest: u8) -> u8
 fn validate_events(cfg: Config, rest: u8) -> u8
     ensures { λ r. ⌜ r ≡ thenRows (eventRows cfg) rest ⌝ }
 {
-    let notexposed = features::local_temperature_not_exposed(cfg);
-    let auto = features::auto(cfg);
+    let notexposed = served::local_temperature_not_exposed(cfg);
+    let auto = served::auto(cfg);
     let occupancy = served::emits(cfg, event_id::OCCUPANCY_CHANGE);
     let schedule = served::emits(cfg, event_id::ACTIVE_SCHEDULE_CHANGE);
     let preset = served::emits(cfg, event_id::ACTIVE_PRESET_CHANGE);
@@ -197,9 +197,9 @@ fn validate_events(cfg: Config, rest: u8) -> u8
 fn validate_numbers(cfg: Config, rest: u8) -> u8
     ensures { λ r. ⌜ r ≡ thenRows (numberRows cfg) rest ⌝ }
 {
-    let auto = features::auto(cfg);
-    let heats = differ(features::heats(cfg), modes::sequence_heats(cfg));
-    let cools = differ(features::cools(cfg), modes::sequence_cools(cfg));
+    let auto = served::auto(cfg);
+    let heats = differ(served::heats(cfg), modes::sequence_heats(cfg));
+    let cools = differ(served::cools(cfg), modes::sequence_cools(cfg));
     let d = limits::dead_band(cfg);
     let low = units::is_above(cfg.absminheat, units::sub(cfg.absmincool, d));
     let high = units::is_above(cfg.absmaxheat, units::sub(cfg.absmaxcool, d));

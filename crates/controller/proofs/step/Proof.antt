@@ -1,54 +1,21 @@
-use Rattle.model.specs.Step.{step}
+use mathlib.Core.Path.{_∙_, ap, sym}
+use mathlib.Core.Bool.{not}
+use borrow.Author.Tests.{not-false, not-true}
+use Rattle.model.specs.Answers.{answer}
+use Rattle.model.specs.Sound.{sound}
+use Rattle.model.proofs.Refused.{unsound-refused}
 use Rattle.controller.proofs.step.Statement.{statement}
 use Rattle.controller.proofs.step.Tie as tie
 
 pub step-spec : {M : Type 1} → statement M
-unfolding step
 step-spec =
     tie.close
     (tie.spec
-    (λ c. c .match .keys1)
     (λ c κs. tt)
-    (λ c. c .match .keys2)
     (λ c κs. tt)
-    (λ c. c .match .keys3)
-    (λ c κs. tt)
-    (λ c. c .match .keys4)
-    (λ c κs. tt)
-    (λ c. c .match .keys5)
-    (λ c κs. tt)
-    (λ c. c .match .keys6)
-    (λ c κs. tt)
-    (λ c. c .match .keys7)
-    (λ c κs. tt)
-    (λ c. c .match .keys8)
-    (λ c κs. tt)
-    (λ c. c .match .keys9)
-    (λ c κs. tt)
-    (λ c. c .match .keys10)
-    (λ c κs. tt)
-    (λ c. c .match .keys11)
-    (λ c κs. tt)
-    (λ c. c .match .keys12)
-    (λ c κs. tt)
-    (λ c. c .match .keys13)
-    (λ c κs. tt)
-    (λ c. c .match .keys14)
-    (λ c κs. tt)
-    (λ c. c .match .keys15)
-    (λ c κs. tt)
-    (λ c. simp (c .write-occupied-heating-setpoint .ensures, c .before .before .call .given .1))
-    (λ c. simp (c .write-occupied-cooling-setpoint .ensures, c .before .before .call2 .given .1))
-    (λ c. simp (c .write-min-heat-setpoint-limit .ensures, c .before .before .call3 .given .1))
-    (λ c. simp (c .write-max-heat-setpoint-limit .ensures, c .before .before .call4 .given .1))
-    (λ c. simp (c .write-min-cool-setpoint-limit .ensures, c .before .before .call5 .given .1))
-    (λ c. simp (c .write-max-cool-setpoint-limit .ensures, c .before .before .call6 .given .1))
-    (λ c. simp (c .write-system-mode .ensures, c .before .before .call7 .given .1))
-    (λ c. simp (c .set-control-sequence-of-operation .ensures, c .before .before .call8 .given .1))
-    (λ c. simp (c .raise-lower-setpoint .ensures, c .before .before .call9 .given .1))
-    (λ c. simp (c .arm-clock .ensures, c .before .enum-told .given .1))
-    (λ c. simp (c .out-of-band-message .ensures, c .before .before .call10 .given .1))
-    (λ c. simp (c .seed-events .ensures, c .before .enum-told2 .given .1))
-    (λ c. simp (c .sweep .ensures, c .before .enum-told3 .given .1))
-    (λ c. simp (c .timer .ensures, c .before .enum-told4 .given .1))
-    (λ c. simp (c .deferred-local-temperature-deadline .ensures, c .before .enum-told5 .given .1)))
+    (λ c.
+    let b = c .before .before in
+    let a = b .before .args in
+    c .quiet-answer .ensures ∙ ap answer (sym (unsound-refused (a .cfg) (a .rec) (a .d) (a .call) (not-true (sound (a .cfg) (a .rec)) (ap not (sym (b .is-sound .ensures)) ∙ c .before .if1 .taken)))))
+    (λ c κs. not-false (sound (c .before .before .args .cfg) (c .before .before .args .rec)) (ap not (sym (c .before .is-sound .ensures)) ∙ c .if1 .left))
+    (λ c. c .step-sound .ensures .0))

@@ -1,0 +1,5 @@
+pub mod Band
+pub mod BothAtTargets
+pub mod Agreement
+pub mod LineThree
+pub mod Examples

@@ -1,7 +1,0 @@
-use Rattle.model.specs.Sweep.{relaysEmitted}
-use Rattle.event_conditions.proofs.is_relays_emitted.Statement.{statement}
-use Rattle.event_conditions.proofs.is_relays_emitted.Tie as tie
-
-pub is-relays-emitted-spec : {M : Type 1} → statement M
-unfolding relaysEmitted
-is-relays-emitted-spec = tie.close (tie.spec (λ c κs. tt) (λ c. simp (c .before .before .emits .ensures)))

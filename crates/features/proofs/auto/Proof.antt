@@ -1,5 +1,0 @@
-use Rattle.features.proofs.auto.Statement.{statement}
-use Rattle.features.proofs.auto.Tie as tie
-
-pub auto-spec : {M : Type 1} → statement M
-auto-spec = tie.close (tie.spec (λ c κs. tt) (λ c. simp (c .supports-feature .ensures)))

@@ -1,5 +1,0 @@
-use Rattle.features.proofs.heats.Statement.{statement}
-use Rattle.features.proofs.heats.Tie as tie
-
-pub heats-spec : {M : Type 1} → statement M
-heats-spec = tie.close (tie.spec (λ c κs. tt) (λ c. simp (c .supports-feature .ensures)))

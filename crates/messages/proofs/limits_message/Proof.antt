@@ -1,0 +1,17 @@
+use mathlib.Core.Path.{refl}
+use Rattle.model.specs.Orders.{askSweep}
+use Rattle.model.specs.Messages.{limitsMessage}
+use Rattle.model.specs.Served.{emitsAny}
+use Rattle.messages.proofs.Bits.{set-again}
+use Rattle.messages.proofs.limits_message.Statement.{statement}
+use Rattle.messages.proofs.limits_message.Tie as tie
+
+pub limits-message-spec : {M : Type 1} → statement M
+unfolding limitsMessage askSweep
+limits-message-spec =
+    tie.close
+    (tie.spec
+    (λ c κs. tt)
+    (λ c κs. tt)
+    (λ c κs. tt)
+    (λ c r. simp (c .order-of .ensures, c .before .repair .ensures, c .before .before .take-limits .ensures, set-again (emitsAny (c .before .before .before .args .cfg)) (r .pending) 0x200 0x2F0 refl)))

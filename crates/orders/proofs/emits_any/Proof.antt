@@ -1,8 +1,0 @@
-use borrow.Author.Needs.{needs}
-use Rattle.model.specs.Served.{emitsAny}
-use Rattle.orders.proofs.emits_any.Statement.{statement}
-use Rattle.orders.proofs.emits_any.Tie as tie
-
-pub emits-any-spec : {M : Type 1} → statement M
-unfolding emitsAny
-emits-any-spec = tie.close (tie.spec (λ c. search needs))

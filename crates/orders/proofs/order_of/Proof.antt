@@ -1,6 +1,0 @@
-use mathlib.Core.Path.{refl}
-use Rattle.orders.proofs.order_of.Statement.{statement}
-use Rattle.orders.proofs.order_of.Tie as tie
-
-pub order-of-spec : {M : Type 1} → statement M
-order-of-spec = tie.close (tie.spec (λ c. refl))

@@ -1,0 +1,2 @@
+pub mod Noticed
+pub mod Performed

@@ -1,0 +1,24 @@
+use Rattle.writes.proofs.Performed.{performed-answer}
+use Rattle.writes.proofs.perform.Statement.{statement}
+use Rattle.writes.proofs.perform.Tie as tie
+
+pub perform-spec : {M : Type 1} → statement M
+perform-spec =
+    tie.close
+    (tie.spec
+    (λ c κs. tt)
+    (λ c κs. tt)
+    (λ c κs. tt)
+    (λ c κs. tt)
+    (λ c κs. tt)
+    (λ c κs. tt)
+    (λ c κs. tt)
+    (λ c κs. tt)
+    (λ c κs. tt)
+    (λ c κs. tt)
+    (λ c.
+    let b = c .before .before .before .before .before in
+    let g = b .before .before .before in
+    let a = g .before .before .before .before .before .before .before .args in
+    performed-answer (a .cfg) (a .d) (a .r) (a .p) (g .before .before .before .with-stored .ensures) (g .before .before .update-attrs .ensures) (g .keep-gap .ensures) (b .before .before .has-any-moved .ensures)
+    (b .before .record-moves .ensures) (b .claim-by .ensures) (c .before .before .before .ask-sweep .ensures) (c .before .before .order-of .ensures) (c .before .notify-all .ensures) (c .none .ensures)))
