@@ -1,1 +1,1 @@
-// The definitions of document 01 stand in specs/, the theorem and the laws in proofs/; this crate has no code.
+// The definitions of document 01 stand in specs/, the laws of single calls in proofs/; this crate has no code.

@@ -1,0 +1,13 @@
+use Rattle.writes_limits.proofs.is_cool_limit_refused.Statement.{statement}
+use Rattle.writes_limits.proofs.is_cool_limit_refused.Tie as tie
+
+pub is-cool-limit-refused-spec : {M : Type 1} → statement M
+is-cool-limit-refused-spec =
+    tie.close
+    (tie.spec
+    (λ c κs. tt)
+    (λ c κs. tt)
+    (λ c κs. tt)
+    (λ c κs. tt)
+    (λ c κs. tt)
+    (λ c. simp (c .is-below .ensures, c .before .add .ensures, c .before .before .dead-band .ensures, c .before .before .before .auto .ensures, c .before .before .before .before .is-within .ensures)))
