@@ -1,5 +1,5 @@
 -- Document 01, Writes: setpoints, limits, mode; and the plant order in which each ends. Raise/lower is RaiseLower's.
-use mathlib.Core.Bool.{Bool, true, false, not, _&&_, _||_, cond}
+use mathlib.Core.Bool.{Bool, not, _&&_, _||_, cond}
 use mathlib.Core.List.{List, [], _∷_, _++_}
 use Prim.Native.Nat.{ℕ}
 use lib.Dec.{eqb}
@@ -110,11 +110,6 @@ pullCooling cfg d r =
     let s = r .attrs .settings in
     cond (inCoolLimits cfg s (s .cooling)) (unchanged r)
     (storeCoolingSetpoint cfg d external (clampCoolSetpoint cfg s (widened (s .cooling))) r)
-
--- the side that a limit pulls: heating, else cooling
-unfoldable pub pullSide : Bool → Config → Readings → Controller → Stage
-pullSide true = pullHeating
-pullSide false = pullCooling
 
 -- a limit write: refused where its attribute is unserved or its value is outside its rule; else the limit is stored and noticed, then pulls
 abbrev pub limitWriteRows : Config → ℕ → Bool → List Row

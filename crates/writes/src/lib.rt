@@ -2,7 +2,7 @@
 ghost use mathlib.Core.Path.{_≡_};
 ghost use mathlib.Core.Bool.{cond, not};
 ghost use lib.Dec.{eqb};
-ghost use Rattle.model.specs.Answers.{answer, onlyIf, packed, pushAll};
+ghost use Rattle.model.specs.Answers.{answer, packed, pushAll};
 ghost use Rattle.model.specs.Attribution.{armedClock};
 ghost use Rattle.model.specs.Modes.{runningState};
 ghost use Rattle.model.specs.Plans as spec;
