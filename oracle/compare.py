@@ -5,7 +5,8 @@
     python3 oracle/compare.py --repair [CALLS [SEED ..]]           openings and limits messages alone, at repair's edges
     python3 oracle/compare.py --both [CALLS [SEED ..]]             raise/lower of both sides alone, at the edges of limits and gap
     python3 oracle/compare.py --replay CALLS OUTDIR                lines in OUTDIR/stdin, the Rust's answers in OUTDIR/stdout,
-                                                                   but the port's where C-14 or C-20 sets them apart, marked
+                                                                   but the port's where C-14 or C-20 sets them apart, marked,
+                                                                   each with the amounts of removed.py
 
 The paths are target/bin/console and oracle/target/release/oracle if none are given.
 
@@ -16,7 +17,8 @@ not, and goes on until CALLS of them lie in document 01's domain. In turn with t
 A difference is listed only where a rule of `Judge` says so: for the paper's rows 20, 24, 26, 27 and 28, and for C-14 and C-20. This
 program works out for itself where they are due. At a row the console must give exactly that number and the record as it was; where both
 setpoints moved, cooling's amount and all else as the Rust. To Both it must answer as raise_both.py does; with AUTO the Rust may answer
-otherwise, and goes on with the console's record. Any other difference, and a row or amount that is due and does not come, is unlisted:
+otherwise, and goes on with the console's record. Every answer of the console must end in the amounts that removed.py gives (C-12); it is
+compared with the Rust's without them. Any other difference, and a row or amount that is due and does not come, is unlisted:
 the first of these are cut down and printed, and the exit code is 1.
 Python's standard library is all it needs.
 """
@@ -33,6 +35,7 @@ import tempfile
 import time
 
 from raise_both import is_both, raise_both
+from removed import CLAMPS, removed
 
 ROOT = pathlib.Path(__file__).resolve().parent.parent
 BATCH = 20000  # lines for one run of the two programs
@@ -216,6 +219,23 @@ def goes_apart(config, words):
     return config.auto and is_both(words)
 
 
+# --- C-12
+
+SIDES = {(True, False): "heating", (False, True): "cooling", (True, True): "both"}
+
+
+def cut_due(config, words, before, answer):
+    """The field due at the end of an answer, which is given as ANSWER reads it, and whose amounts in it are other than 0, if any."""
+    amounts = removed(config, words, before, int(answer[1]), answer[2])
+    return " cut={}/{}".format(*amounts), SIDES.get(tuple(map(bool, amounts)))
+
+
+def without_cut(answer):
+    """An answer without that field, and the field, empty if there is none."""
+    rest, label, amounts = answer.rpartition(" cut=")
+    return (rest, label + amounts) if label else (answer, "")
+
+
 # --- The rules
 
 BOTH, CONSOLE_ALONE, UNREADABLE = range(3)  # how a line is meant
@@ -237,7 +257,7 @@ class Counts:
     def __init__(self):
         self.lines = self.calls = self.compared = 0
         self.kinds, self.numbers, self.left_out = (collections.Counter() for _ in range(3))
-        self.listed = collections.defaultdict(collections.Counter)
+        self.listed, self.removed = (collections.defaultdict(collections.Counter) for _ in range(2))
 
     def domain(self):
         """Calls in document 01's domain: all but those answered 24, 27 or 28 and those whose values the Rust's types lack."""
@@ -260,6 +280,7 @@ class Judge:
         self.lost = False  # whether an unlisted difference came up since
 
     def step(self, line, how, at, ours, theirs):
+        self.due = ""  # the field of C-12, where the console's is another
         self.counts.lines += 1
         if how == UNREADABLE:
             self.counts.kinds["(unreadable)"] += 1
@@ -274,11 +295,22 @@ class Judge:
 
         self.counts.calls += 1
         self.counts.kinds[words[0]] += 1
+        ours, cut = without_cut(ours)
         answer = ANSWER.fullmatch(ours)
         if not answer or (answer[6] is None) == (words[0] == "deadline"):
             return "no answer of this form is due"
         self.counts.numbers[int(answer[1])] += 1
         before, self.state = self.state, answer[2]
+        why = self.beside_the_rust(words, how, before, ours, theirs)
+        due, sides = cut_due(self.config, words, before, answer)
+        if sides:
+            self.counts.removed[words[0]][sides] += 1
+        if cut != due:
+            self.due = due
+            why = why or ("C-12's amounts are due" if cut else "the field of C-12 is missing")
+        return why
+
+    def beside_the_rust(self, words, how, before, ours, theirs):
         if words[0] == "open":
             return self.opening(words, ours, theirs)
         if self.lost:
@@ -386,7 +418,7 @@ class Pair:
             words = line.split(" ")
             if how == BOTH and words[0] == "config":
                 config = Config.read(words)
-            if how == BOTH and goes_apart(config, words) and (done := ANSWER.fullmatch(answer)):
+            if how == BOTH and goes_apart(config, words) and (done := ANSWER.fullmatch(without_cut(answer)[0])):
                 asked.append((record_of(done[2]), False))
         theirs = self.answers(self.programs[1], [line for line, _ in asked])
         return zip(ours, counted(asked, theirs))
@@ -420,7 +452,7 @@ def counted(asked, answers):
             yield f"error {int(unreadable[1]) - more}" if unreadable else answer
 
 
-Complaint = collections.namedtuple("Complaint", "why lines longer ours theirs")
+Complaint = collections.namedtuple("Complaint", "why lines longer ours theirs due")
 
 
 def run(pair, items, counts):
@@ -435,7 +467,7 @@ def run(pair, items, counts):
         if why:
             lead = [] if word in ("config", "open", "record") else [record_of(state)]
             least = [line] if how == UNREADABLE else [*config, *lead, line]
-            yield Complaint(why, least, [*config, *(each for each, _ in items[since : index + 1])], ours, theirs)
+            yield Complaint(why, least, [*config, *(each for each, _ in items[since : index + 1])], ours, theirs, judge.due)
         if how != UNREADABLE and word == "config":
             config = [line]
         if how != UNREADABLE and word in ("open", "record"):
@@ -1071,7 +1103,8 @@ def compare(arguments):
                 break
         smallest = [cut_down(pair, found, list(map(str, table[0]))) for found in itertools.islice(kinds.values(), 8)]
     for found in sorted(smallest, key=lambda found: len("".join(found.lines))):
-        print("UNLISTED: " + found.why, *found.lines, "console: " + found.ours, f"rust:    {found.theirs}", "", sep="\n")
+        due = ["due:    " + found.due] if found.due else []
+        print("UNLISTED: " + found.why, *found.lines, "console: " + found.ours, f"rust:    {found.theirs}", *due, "", sep="\n")
 
     def row(name, count, more=""):
         print(f"  {name:<64}{count:>9}{more}")
@@ -1087,6 +1120,9 @@ def compare(arguments):
     print("the console's answers by number")
     for name, count in sorted(counts.numbers.items()):
         row(str(name), count)
+    print("answers with an amount removed other than 0 (C-12), by kind of call")
+    for name, sides in sorted(counts.removed.items()):
+        row(name, sum(sides.values()), "  " + ", ".join(f"{side} {count}" for side, count in sorted(sides.items())))
     print("listed differences, and what the Rust did")
     for name, rust in sorted(counts.listed.items()):
         row(name, sum(rust.values()), "  " + ", ".join(f"{word} {count}" for word, count in rust.most_common()))
@@ -1167,23 +1203,25 @@ def shown_anew(config, part, seen):
 
 
 def port_answers(lines, answers):
-    """Each line with the Rust's answer, the port's, and the request that sets them apart, if one does."""
+    """Each line with the Rust's answer, the port's, and the request that sets them apart, if one does; C-12's field is the port's alone."""
     config, state = None, BLANK
     for line, answer in zip(lines, answers):
-        words = line.split(" ")
-        if words[0] == "config":
-            config = Config.read(words)
+        words, due, request = line.split(" "), answer, None
+        if words[0] in ("config", "record"):
+            if words[0] == "config":
+                config = Config.read(words)
+            else:
+                state = state_of(words)[0]
             yield line, answer, answer, None
             continue
         if moved := moved_both(config, words, state):
             if moved[0] != amount_of(answer):
                 sys.exit("both setpoints moved, and the Rust does not record heating's amount: " + answer)
-            yield line, answer, with_amount(answer, moved[1]), "C-20"
+            due, request = with_amount(answer, moved[1]), "C-20"
         elif goes_apart(config, words) and (raised := raise_both(config, words, state)) != answer:
-            yield line, answer, raised, "C-14"
-        else:
-            yield line, answer, answer, None
-        state = state_of(words)[0] if words[0] == "record" else ANSWER.fullmatch(answer)[2]
+            due, request = raised, "C-14"
+        yield line, answer, due + cut_due(config, words, state, ANSWER.fullmatch(due))[0], request
+        state = ANSWER.fullmatch(answer)[2]
 
 
 def marked(lines, answers):
@@ -1236,7 +1274,10 @@ def replay(arguments):
     print("with the port's answer:", ", ".join(f"{name} {count}" for name, count in sorted(requests.items())))
     print("by kind:", ", ".join(f"{name} {count}" for name, count in sorted(kinds.items())))
     print("by answer:", ", ".join(f"{name}: {count}" for name, count in sorted(numbers.items())))
-    if set(numbers) != {*range(24), 25} or set(kinds) != {"config", "record", "open", *KINDS} or len(requests) < 2:
+    cutting = collections.Counter(line.split(" ")[0] for line, _, due, _ in cases if not due.endswith(("ok", " cut=0/0")))
+    print("with an amount removed other than 0:", ", ".join(f"{name} {count}" for name, count in sorted(cutting.items())))
+    complete = set(numbers) == {*range(24), 25} and set(kinds) == {"config", "record", "open", *KINDS} and set(cutting) == set(CLAMPS)
+    if not complete or len(requests) < 2:
         sys.exit("some kind of call, or answer, is not in it")
     return 0
 

@@ -1,5 +1,6 @@
 #!/usr/bin/env python3
-"""How the console reads lines: every statement of docs/CONSOLE.md about them, and beside the oracle, which reads the same lines.
+"""How the console reads lines: every statement of docs/CONSOLE.md about them, and beside the oracle, which reads the same lines. Its
+answers lack the field of C-12.
 
     python3 oracle/console_lines.py [CONSOLE [ORACLE]]
 
@@ -8,6 +9,7 @@ Prints what fails, and a count. Python's standard library is all it needs.
 
 import os
 import pathlib
+import re
 import select
 import subprocess
 import sys
@@ -24,6 +26,8 @@ FORMS = {
     "ooblimits": "hhhh", "oobtemp": "", "oobrunning": "", "oobupdate": "", "start": "", "sweep": "", "timer": "", "deadline": "",
 }  # fmt: skip
 SNAPSHOT = "Hhhbwb"
+AMOUNT = rb"(0|-?[1-9]\d*)"
+ANSWER = re.compile(rb"ok|error \d+|\d+ h=\S+ c=.* events=\S+( deadline=\S+)? cut=" + AMOUNT + b"/" + AMOUNT)
 RANGES = {"b": (0, 255), "w": (0, 65535), "d": (0, 2**32 - 1), "q": (0, 2**64 - 1), "t": (-128, 127), "h": (-32768, 32767), "f": (0, 1)}
 
 checks = failures = 0
@@ -52,7 +56,14 @@ def both(lines):
     """Pairs of answers to lines that each have one."""
     ours, theirs = ask(CONSOLE, lines_of(lines)), ask(ORACLE, lines_of(lines))
     check(len(ours) == len(theirs) == len(lines), "an answer a line", len(ours), len(theirs), len(lines))
+    others = [answer for answer in ours if not ANSWER.fullmatch(answer)]
+    check(not others, "the fields of an answer", *others[:3])
     return list(zip(ours, theirs))
+
+
+def nothing_cut(answers):
+    """Answers that lack the field of C-12, as the oracle's do, with it where nothing was removed."""
+    return [answer if answer == b"ok" or answer.startswith(b"error") else answer + b" cut=0/0" for answer in answers]
 
 
 def is_error(answer, at):
@@ -181,7 +192,7 @@ def ends():
             check(len(ask(program, data)) == answers, program, data[:40], answers)
     check(ask(CONSOLE, b"arm") == ask(CONSOLE, b"arm\n"), "the last line may lack its newline")
     plant = b"config 11 547 1972525402030201 59 1 700 2900 1600 3200 25 4 50\nopen 2000 2250 700 2900 1600 3200 1\nheat 2100\n"
-    check(ask(CONSOLE, plant) == ask(ORACLE, plant) == ask(CONSOLE, plant[:-1]), "the plant")
+    check(ask(CONSOLE, plant) == nothing_cut(ask(ORACLE, plant)) == ask(CONSOLE, plant[:-1]), "the plant")
     crlf = plant.replace(b"\n", b"\r\n")
     check(ask(CONSOLE, crlf) == ask(ORACLE, crlf) == [b"error 1", b"error 2", b"error 3"], "carriage returns")
     # What cannot be read changes nothing.
@@ -192,7 +203,7 @@ def ends():
     blank = b"h=0 c=0 minh=0 maxh=0 minc=0 maxc=0 mode=0 dirty=0 pend=0 shadow=- last=- src=0 amt=- ts=0 att=- armed=-"
     blank += b" order=- notices=- events=-"
     told = ask(CONSOLE, b"open 1 2 3 4 5 6 1\narm\ndeadline\n")
-    check(told == [b"1 " + blank, b"28 " + blank, b"28 " + blank + b" deadline=-"], "before any config")
+    check(told == nothing_cut([b"1 " + blank, b"28 " + blank, b"28 " + blank + b" deadline=-"]), "before any config")
 
 
 def taken_as_written():
@@ -212,7 +223,18 @@ def taken_as_written():
             order = "h c minh maxh minc maxc mode dirty pend shadow last src amt ts att armed".split()
             lines += [b"record " + " ".join(fields).encode(), b"sequence 4"]
             states += [b"ok", ("28 " + " ".join(f"{name}={said[name]}" for name in order) + " order=- notices=- events=-").encode()]
-    check(ask(CONSOLE, lines_of(lines)) == states, "records come back as written")
+    check(ask(CONSOLE, lines_of(lines)) == nothing_cut(states), "records come back as written")
+
+
+def amounts():
+    """Every amount that can be removed from a setpoint, above a limit and below one, on either side."""
+    low, high = RANGES["h"]
+    for heating, cooling in (low, high), (high, low):  # each side's limits are one number; without AUTO they may lie anywhere
+        lines = [b"config 11 3 403046401 0 1 %d %d %d %d 0 4 0" % (heating, heating, cooling, cooling)]
+        lines += [b"open %d %d 0 0 0 0 0" % (value, -1 - value) for value in range(low, high + 1)]
+        told = [answer.rpartition(b" ")[2] for answer in ask(CONSOLE, lines_of(lines))]
+        due = [b"ok"] + [b"cut=%d/%d" % (value - heating, -1 - value - cooling) for value in range(low, high + 1)]
+        check(told == due, "amounts removed", *[pair for pair in zip(told, due) if pair[0] != pair[1]][:3])
 
 
 def in_pieces():
@@ -221,7 +243,7 @@ def in_pieces():
     plant += b"open 2000 2250 700 2900 1600 3200 1\nheat 2100\nx\nraise 0 10\n"
     data = plant * 400 + b"heat 2000"
     whole = ask(CONSOLE, data)
-    check(whole == ask(ORACLE, data), "whole")
+    check(whole == nothing_cut(ask(ORACLE, data)), "whole")
     for size in 1, 2, 7, 250, 251, 252, 4095, 4097, 65535, 65537:
         pieces = plant + b"heat 2000" if size == 1 else data
         process = subprocess.Popen([CONSOLE], stdin=subprocess.PIPE, stdout=subprocess.PIPE)
@@ -285,6 +307,7 @@ if __name__ == "__main__":
     lengths()
     ends()
     taken_as_written()
+    amounts()
     in_pieces()
     speed()
     odd_handles()

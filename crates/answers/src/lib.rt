@@ -12,6 +12,7 @@ use records::Events;
 use records::Moment;
 use records::Notices;
 use records::Order;
+use records::Removed;
 use records::Settings;
 use records::pending_mask;
 
@@ -74,6 +75,7 @@ pub fn quiet_answer(number: u8, r: Controller) -> Answer
         notices: n,
         events: e,
         deadline: Moment::Never,
+        removed: Removed::NOTHING,
     }
 }
 

@@ -1,8 +1,9 @@
 // model/specs/Step: one step, by cases on the call. What runs here is what the theorem of crate claims speaks of.
 ghost use mathlib.Core.Path.{_≡_};
 ghost use mathlib.Core.Bool.{true};
-ghost use Rattle.model.specs.Answers.{answer};
+ghost use Rattle.model.specs.Answers.{answerWith};
 ghost use Rattle.model.specs.Plans.{planned};
+ghost use Rattle.model.specs.Removed.{removed, removedWhenDone};
 ghost use Rattle.model.specs.Sound.{sound as soundOf};
 ghost use Rattle.model.specs.Step.{step as stepOf, stepSound};
 ghost use Rattle.records.specs.declared.Planned.the-variants.{NoWrite};
@@ -17,7 +18,7 @@ use records::answer_number;
 // The calls that are no writes. The last arm serves the control sequence, which accepts every value and changes nothing.
 fn serve(cfg: Config, rec: Controller, d: Readings, call: Call) -> Answer
     requires { ⌜ (soundOf cfg rec ≡ true) × (planned cfg (rec .attrs .settings) call ≡ NoWrite) ⌝ }
-    ensures { λ q. ⌜ q ≡ answer (stepSound cfg rec d call) ⌝ }
+    ensures { λ q. ⌜ q ≡ answerWith (stepSound cfg rec d call) (removedWhenDone cfg (rec .attrs) call) ⌝ }
 {
     match call {
         Call::ArmClock => answers::quiet_answer(
@@ -36,7 +37,7 @@ fn serve(cfg: Config, rec: Controller, d: Readings, call: Call) -> Answer
 // For a caller that holds its record from an opening on: row 28 is not tested, since the opening and every step keep it.
 pub fn step_sound(cfg: Config, rec: Controller, d: Readings, call: Call) -> Answer
     requires { ⌜ soundOf cfg rec ≡ true ⌝ }
-    ensures { λ q. ⌜ (q ≡ answer (stepOf cfg rec d call)) × (soundOf cfg (q .rec) ≡ true) ⌝ }
+    ensures { λ q. ⌜ (q ≡ answerWith (stepOf cfg rec d call) (removed cfg rec d call)) × (soundOf cfg (q .rec) ≡ true) ⌝ }
 {
     match writes_plans::plan(cfg, rec.attrs.settings, call) {
         Planned::NoWrite => serve(cfg, rec, d, call),
@@ -46,7 +47,7 @@ pub fn step_sound(cfg: Config, rec: Controller, d: Readings, call: Call) -> Answ
 
 // The public entry: it tests everything, row 28 here and nowhere else.
 pub fn step(cfg: Config, rec: Controller, d: Readings, call: Call) -> Answer
-    ensures { λ q. ⌜ q ≡ answer (stepOf cfg rec d call) ⌝ }
+    ensures { λ q. ⌜ q ≡ answerWith (stepOf cfg rec d call) (removed cfg rec d call) ⌝ }
 {
     if !sound::is_sound(cfg, rec) {
         return answers::quiet_answer(answer_number::UNSOUND_RECORD, rec);

@@ -1,9 +1,11 @@
 // model/specs/Units and Limits: the dead band; the limits in force, what lies within them, and clamping.
 ghost use mathlib.Core.Path.{_≡_};
+ghost use Rattle.units.specs.Units.{Sum};
 ghost use Rattle.model.specs.Units.{deadBand};
-ghost use Rattle.model.specs.Limits.{minHeatSetpoint, maxHeatSetpoint, minCoolSetpoint, maxCoolSetpoint, inHeatLimits, inCoolLimits, clampHeatSetpoint, clampCoolSetpoint};
+ghost use Rattle.model.specs.Limits.{minHeatSetpoint, maxHeatSetpoint, minCoolSetpoint, maxCoolSetpoint, inHeatLimits, inCoolLimits, clampingHeat, clampingCool};
 use records::Config;
 use records::Settings;
+use units::Clamped;
 use units::Hundredths;
 use units::Wide;
 
@@ -68,16 +70,18 @@ pub fn in_cool_limits(cfg: Config, s: Settings, v: Hundredths) -> bool
     units_ranges::is_within(v, mincool, maxcool)
 }
 
-pub fn clamp_heat_setpoint(cfg: Config, s: Settings, v: Wide) -> Hundredths
-    ensures { λ r. ⌜ r ≡ clampHeatSetpoint cfg s v ⌝ }
+pub fn clamp_heat_setpoint(cfg: Config, s: Settings, v: Wide) -> Clamped
+    requires { ⌜ Sum v ⌝ }
+    ensures { λ r. ⌜ r ≡ clampingHeat cfg s v ⌝ }
 {
     let minheat = min_heat_setpoint(cfg, s);
     let maxheat = max_heat_setpoint(cfg, s);
     units_ranges::clamp(v, minheat, maxheat)
 }
 
-pub fn clamp_cool_setpoint(cfg: Config, s: Settings, v: Wide) -> Hundredths
-    ensures { λ r. ⌜ r ≡ clampCoolSetpoint cfg s v ⌝ }
+pub fn clamp_cool_setpoint(cfg: Config, s: Settings, v: Wide) -> Clamped
+    requires { ⌜ Sum v ⌝ }
+    ensures { λ r. ⌜ r ≡ clampingCool cfg s v ⌝ }
 {
     let mincool = min_cool_setpoint(cfg, s);
     let maxcool = max_cool_setpoint(cfg, s);

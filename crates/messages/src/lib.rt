@@ -1,8 +1,11 @@
-// model/specs/Messages: out-of-band messages. Each takes the settings and gives those it leaves, and the pending bits it sets.
+// model/specs/Messages and Removed: out-of-band messages. Each takes the settings and gives those it leaves, the pending bits it sets and the amounts it removes.
 ghost use mathlib.Core.Path.{_≡_};
 ghost use lib.Bits.{bitOr};
-ghost use Rattle.records.specs.Records.{withPending};
-ghost use Rattle.model.specs.Answers.{answer, quiet};
+ghost use mathlib.Core.Bool.{cond};
+ghost use Rattle.records.specs.Records.{withPending, zeroWide, nothingRemoved};
+ghost use Rattle.model.specs.Answers.{answerWith, quiet};
+ghost use Rattle.model.specs.Served.{heats, cools};
+ghost use Rattle.model.specs.Removed.{heatingAlone, coolingAlone, heatingRemoved, coolingRemoved, repairRemoved, messageRemoved};
 ghost use Rattle.model.specs.Messages as spec;
 ghost use Rattle.messages.specs.Taken.{Takes};
 use records::Answer;
@@ -14,9 +17,11 @@ use records::Moment;
 use records::Notices;
 use records::Order;
 use records::OutOfBandMessage;
+use records::Removed;
 use records::answer_number;
 use records::pending_mask;
 use units::Hundredths;
+use units::Wide;
 
 // What a message asks for.
 struct Taken {
@@ -24,11 +29,12 @@ struct Taken {
     attrs: Attrs,
     bits: u16,
     order: Order,
+    removed: Removed,
 }
 
 // No plant order.
-fn quiet_taken(number: u8, a: Attrs, bits: u16) -> Taken
-    ensures { λ t. ⌜ Takes a (λ r. quiet number (withPending r (bitOr (r .pending) bits))) t ⌝ }
+fn quiet_taken(number: u8, a: Attrs, bits: u16, x: Removed) -> Taken
+    ensures { λ t. ⌜ Takes a (λ r. quiet number (withPending r (bitOr (r .pending) bits))) x t ⌝ }
 {
     let o = Order::NoOrder;
     Taken {
@@ -36,44 +42,82 @@ fn quiet_taken(number: u8, a: Attrs, bits: u16) -> Taken
         attrs: a,
         bits: bits,
         order: o,
+        removed: x,
     }
 }
 
 // Every accepted message asks for a sweep too.
-fn take(a: Attrs, bits: u16) -> Taken
-    ensures { λ t. ⌜ Takes a (λ r. quiet 0 (spec.raiseBits r bits)) t ⌝ }
+fn take(a: Attrs, bits: u16, x: Removed) -> Taken
+    ensures { λ t. ⌜ Takes a (λ r. quiet 0 (spec.raiseBits r bits)) x t ⌝ }
 {
-    quiet_taken(answer_number::DONE, a, bits | pending_mask::EVENT_SWEEP)
+    quiet_taken(answer_number::DONE, a, bits | pending_mask::EVENT_SWEEP, x)
+}
+
+// A side that is not served has no amount, though its setpoint is clamped all the same.
+fn heating_alone(cfg: Config, w: Wide) -> Removed
+    ensures { λ r. ⌜ r ≡ heatingAlone (cond (heats cfg) w zeroWide) ⌝ }
+{
+    if served::heats(cfg) {
+        return Removed {
+            heating: w,
+            cooling: Wide::ZERO,
+        };
+    }
+    Removed::NOTHING
+}
+
+fn cooling_alone(cfg: Config, w: Wide) -> Removed
+    ensures { λ r. ⌜ r ≡ coolingAlone (cond (cools cfg) w zeroWide) ⌝ }
+{
+    if served::cools(cfg) {
+        return Removed {
+            heating: Wide::ZERO,
+            cooling: w,
+        };
+    }
+    Removed::NOTHING
 }
 
 fn heating_message(cfg: Config, a: Attrs, v: Hundredths) -> Taken
-    ensures { λ t. ⌜ Takes a (λ r. spec.heatingMessage cfg r v) t ⌝ }
+    ensures { λ t. ⌜ Takes a (λ r. spec.heatingMessage cfg r v) (heatingAlone (heatingRemoved cfg (a .settings) v)) t ⌝ }
 {
     let mut s = a.settings;
-    s.heating = limits::clamp_heat_setpoint(cfg, a.settings, units::widen(v));
+    let c = limits::clamp_heat_setpoint(cfg, a.settings, units::widen(v));
+    let given = c.given;
+    s.heating = given;
     let b = records::update_attrs(a, s);
-    take(b, pending_mask::OCCUPIED_HEATING_SETPOINT)
+    take(
+        b,
+        pending_mask::OCCUPIED_HEATING_SETPOINT,
+        heating_alone(cfg, c.removed),
+    )
 }
 
 fn cooling_message(cfg: Config, a: Attrs, v: Hundredths) -> Taken
-    ensures { λ t. ⌜ Takes a (λ r. spec.coolingMessage cfg r v) t ⌝ }
+    ensures { λ t. ⌜ Takes a (λ r. spec.coolingMessage cfg r v) (coolingAlone (coolingRemoved cfg (a .settings) v)) t ⌝ }
 {
     let mut s = a.settings;
-    s.cooling = limits::clamp_cool_setpoint(cfg, a.settings, units::widen(v));
+    let c = limits::clamp_cool_setpoint(cfg, a.settings, units::widen(v));
+    let given = c.given;
+    s.cooling = given;
     let b = records::update_attrs(a, s);
-    take(b, pending_mask::OCCUPIED_COOLING_SETPOINT)
+    take(
+        b,
+        pending_mask::OCCUPIED_COOLING_SETPOINT,
+        cooling_alone(cfg, c.removed),
+    )
 }
 
 fn mode_message(cfg: Config, a: Attrs, v: u8) -> Taken
-    ensures { λ t. ⌜ Takes a (λ r. spec.modeMessage cfg r v) t ⌝ }
+    ensures { λ t. ⌜ Takes a (λ r. spec.modeMessage cfg r v) nothingRemoved t ⌝ }
 {
     if !modes::is_supported_system_mode(cfg, v) {
-        return quiet_taken(answer_number::UNSUPPORTED_MODE, a, 0);
+        return quiet_taken(answer_number::UNSUPPORTED_MODE, a, 0, Removed::NOTHING);
     }
     let mut s = a.settings;
     s.mode = v;
     let b = records::update_attrs(a, s);
-    take(b, pending_mask::SYSTEM_MODE)
+    take(b, pending_mask::SYSTEM_MODE, Removed::NOTHING)
 }
 
 // The four limits in one store.
@@ -88,10 +132,14 @@ fn take_limits(
     ensures { λ r. ⌜ r ≡ spec.limitsTaken cfg a minh maxh minc maxc ⌝ }
 {
     let mut s = a.settings;
-    s.minheat = units_ranges::clamp(units::widen(minh), cfg.absminheat, cfg.absmaxheat);
-    s.maxheat = units_ranges::clamp(units::widen(maxh), cfg.absminheat, cfg.absmaxheat);
-    s.mincool = units_ranges::clamp(units::widen(minc), cfg.absmincool, cfg.absmaxcool);
-    s.maxcool = units_ranges::clamp(units::widen(maxc), cfg.absmincool, cfg.absmaxcool);
+    let minheat = units_ranges::clamp(units::widen(minh), cfg.absminheat, cfg.absmaxheat).given;
+    s.minheat = minheat;
+    let maxheat = units_ranges::clamp(units::widen(maxh), cfg.absminheat, cfg.absmaxheat).given;
+    s.maxheat = maxheat;
+    let mincool = units_ranges::clamp(units::widen(minc), cfg.absmincool, cfg.absmaxcool).given;
+    s.mincool = mincool;
+    let maxcool = units_ranges::clamp(units::widen(maxc), cfg.absmincool, cfg.absmaxcool).given;
+    s.maxcool = maxcool;
     records::update_attrs(a, s)
 }
 
@@ -104,25 +152,32 @@ fn limits_message(
     minc: Hundredths,
     maxc: Hundredths,
 ) -> Taken
-    ensures { λ t. ⌜ Takes a (λ r. spec.limitsMessage cfg r minh maxh minc maxc) t ⌝ }
+    ensures { λ t. ⌜ Takes a (λ r. spec.limitsMessage cfg r minh maxh minc maxc) (repairRemoved cfg (spec.limitsTaken cfg a minh maxh minc maxc)) t ⌝ }
 {
-    let b = repair::repair(cfg, take_limits(cfg, a, minh, maxh, minc, maxc));
+    let f = repair::repair(cfg, take_limits(cfg, a, minh, maxh, minc, maxc));
+    let b = f.attrs;
+    let x = f.removed;
     let o = answers::order_of(b.settings);
     Taken {
         number: answer_number::DONE,
         attrs: b,
         bits: pending_mask::LIMITS | pending_mask::EVENT_SWEEP,
         order: o,
+        removed: x,
     }
 }
 
 fn take_message(cfg: Config, a: Attrs, m: OutOfBandMessage) -> Taken
-    ensures { λ t. ⌜ Takes a (λ r. spec.outOfBandMessage cfg r m) t ⌝ }
+    ensures { λ t. ⌜ Takes a (λ r. spec.outOfBandMessage cfg r m) (messageRemoved cfg a m) t ⌝ }
 {
     match m {
-        OutOfBandMessage::LocalTemperature => take(a, pending_mask::LOCAL_TEMPERATURE),
-        OutOfBandMessage::RunningState => take(a, pending_mask::RUNNING_STATE),
-        OutOfBandMessage::Update => take(a, pending_mask::UPDATE),
+        OutOfBandMessage::LocalTemperature => take(
+            a,
+            pending_mask::LOCAL_TEMPERATURE,
+            Removed::NOTHING,
+        ),
+        OutOfBandMessage::RunningState => take(a, pending_mask::RUNNING_STATE, Removed::NOTHING),
+        OutOfBandMessage::Update => take(a, pending_mask::UPDATE, Removed::NOTHING),
         OutOfBandMessage::OccupiedHeatingSetpoint(v) => heating_message(cfg, a, v),
         OutOfBandMessage::OccupiedCoolingSetpoint(v) => cooling_message(cfg, a, v),
         OutOfBandMessage::SystemMode(v) => mode_message(cfg, a, v),
@@ -139,11 +194,12 @@ fn take_message(cfg: Config, a: Attrs, m: OutOfBandMessage) -> Taken
 
 // The settings go into the record, the bits to those that are pending. A refused message has no bits, and the settings as they were.
 pub fn out_of_band_message(cfg: Config, r: Controller, m: OutOfBandMessage) -> Answer
-    ensures { λ q. ⌜ q ≡ answer (spec.outOfBandMessage cfg r m) ⌝ }
+    ensures { λ q. ⌜ q ≡ answerWith (spec.outOfBandMessage cfg r m) (messageRemoved cfg (r .attrs) m) ⌝ }
 {
     let t = take_message(cfg, r.attrs, m);
     let a = t.attrs;
     let o = t.order;
+    let x = t.removed;
     let before = r.pending;
     let bits = t.bits;
     let mut q = r;
@@ -158,5 +214,6 @@ pub fn out_of_band_message(cfg: Config, r: Controller, m: OutOfBandMessage) -> A
         notices: n,
         events: e,
         deadline: Moment::Never,
+        removed: x,
     }
 }

@@ -1,7 +1,7 @@
--- Document 01's four traps and the cases of C-14, C-20 and C-24, computed.
+-- Document 01's four traps and the cases of C-12, C-14, C-20 and C-24, computed.
 use mathlib.Core.Path.{refl}
 use Rattle.model.specs.RepairedSettings.{AdjustmentActs}
-use Rattle.model.specs.Examples.{DirtyThoughUndone, EqualWriteKeepsGap, MessageWithoutOrder, ArmedSecondOnce, SameAmountForBoth, HeatingGivesWay, FirstRecordIsCoolings, PanelMovedBoth}
+use Rattle.model.specs.Examples.{DirtyThoughUndone, EqualWriteKeepsGap, MessageWithoutOrder, ArmedSecondOnce, SameAmountForBoth, HeatingGivesWay, FirstRecordIsCoolings, PanelMovedBoth, TakenAs, FirstClampsAlone, ServedSidesAlone}
 use Rattle.model.specs.Everything.{everything}
 
 pub dirty-though-undone : DirtyThoughUndone
@@ -39,3 +39,15 @@ first-record-is-coolings = (refl, refl)
 pub panel-moved-both : PanelMovedBoth
 unfolding everything
 panel-moved-both = (refl, refl, refl, refl, refl)
+
+pub taken-as : TakenAs
+unfolding everything
+taken-as = (refl, refl, refl, refl, refl, refl)
+
+pub first-clamps-alone : FirstClampsAlone
+unfolding everything
+first-clamps-alone = (refl, refl, refl, refl, refl, refl, refl)
+
+pub served-sides-alone : ServedSidesAlone
+unfolding everything
+served-sides-alone = (refl, refl, refl, refl, refl, refl)

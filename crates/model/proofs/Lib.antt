@@ -15,6 +15,7 @@ pub mod Good
 pub mod Kept
 pub mod Gaps
 pub mod RaiseBoth
+pub mod Removed
 pub mod Agree
 pub mod Mode
 pub mod Pairs

@@ -21,12 +21,13 @@ use Rattle.model.specs.Writes.{applied, thenNoticed, tooNearCooling, too
 use Rattle.model.specs.RaiseBoth.{heatingTarget, coolingTarget, raiseBoth}
 use Rattle.model.specs.RaiseLower.{raiseHeating, raiseCooling, raiseSides, raiseRows, raiseLowerSetpoint}
 use Rattle.model.specs.Step.{stepSound}
-use Rattle.model.specs.Plans.{refusal, settingAlone, heatingTo, coolingTo, bothTo, planUnless, heatingPulled, coolingPulled, planHeatingSetpoint, planCoolingSetpoint, planMinHeatLimit, planMaxHeatLimit, planMinCoolLimit, planMaxCoolLimit, planSystemMode, planSides, arming, planRaiseLower, planned, settingStored, anyMoved, movesRecorded, limitNotices, modeNotices, moveNotices, moved, performed, carriedOut, HeatingSetpointCarried, CoolingSetpointCarried, MinHeatLimitCarried, MaxHeatLimitCarried, MinCoolLimitCarried, MaxCoolLimitCarried, SystemModeCarried, RaiseLowerCarried, PlannedCarried}
+use Rattle.model.specs.Plans.{refusal, settingAlone, heatingTo, coolingTo, bothTo, planUnless, heatingPulled, coolingPulled, planHeatingSetpoint, planCoolingSetpoint, planMinHeatLimit, planMaxHeatLimit, planMinCoolLimit, planMaxCoolLimit, planSystemMode, planSides, removing, arming, planRaiseLower, planned, settingStored, anyMoved, movesRecorded, limitNotices, modeNotices, moveNotices, moved, performed, carriedOut, HeatingSetpointCarried, CoolingSetpointCarried, MinHeatLimitCarried, MaxHeatLimitCarried, MinCoolLimitCarried, MaxCoolLimitCarried, SystemModeCarried, RaiseLowerCarried, PlannedCarried}
 use Rattle.records.specs.declared.Config.{Config}
 use Rattle.records.specs.declared.Settings.{Settings}
 use Rattle.records.specs.declared.Attrs.{Attrs}
 use Rattle.records.specs.declared.Controller.{Controller}
 use Rattle.records.specs.declared.Readings.{Readings}
+use Rattle.records.specs.declared.Removed.{Removed}
 use Rattle.records.specs.declared.Plan.{Plan}
 use Rattle.records.specs.declared.Stored.{Stored}
 use Rattle.records.specs.declared.Stored.the-variants.{Nothing, MinHeat, MaxHeat, MinCool, MaxCool, Mode}
@@ -61,7 +62,7 @@ abbrev planOr : Plan → Planned → Plan
 planOr p NoWrite = p
 planOr p (Write q) = q
 
-write-of : {p q : Plan} → Write p ≡ Write q → p ≡ q
+pub write-of : {p q : Plan} → Write p ≡ Write q → p ≡ q
 write-of {p = p} e = ap (planOr p) e
 
 abbrev isWrite : Planned → Bool
@@ -146,10 +147,15 @@ module _ (cfg : Config) (d : Readings) (r : Controller) where
   unfolding carriedOut performed
   both-carried amount = unmoded _ refl _ ∙ nothing-stored _ ∙ both-moved cfg d [] r Nothing amount
 
+  -- the amounts move nothing
+  removing-carried : (p : Plan) (x : Removed) → carriedOut cfg d r (removing p x) ≡ carriedOut cfg d r p
+  unfolding carriedOut performed moved
+  removing-carried p x = refl
+
   sides-carried : (mode : ℕ) (amount : Tenths) → Carried (planSides cfg (r .attrs .settings) mode amount) (raiseSides cfg d mode amount r)
   unfolding planSides raiseSides raiseHeating raiseCooling
   sides-carried mode amount =
-      both-cond Carried (eqb mode 0) _ _ _ _ (λ e. heating-carried _) (λ e. both-cond Carried (eqb mode 1) _ _ _ _ (λ f. cooling-carried _) (λ f. both-carried amount))
+      both-cond Carried (eqb mode 0) _ _ _ _ (λ e. removing-carried _ _ ∙ heating-carried _) (λ e. both-cond Carried (eqb mode 1) _ _ _ _ (λ f. removing-carried _ _ ∙ cooling-carried _) (λ f. removing-carried _ _ ∙ both-carried amount))
 
   -- a limit is stored and noticed, then pulls
   module _ (x : Stored) (e : modeNotices cfg x ≡ []) where

@@ -57,7 +57,7 @@ module _ (d lo hi mi ma mc xc : ℤ) (o : Ordered lo mi ma hi) (c : mc ≤ℤ xc
 abbrev withMode : Settings → ℕ → Settings
 withMode s m = record { heating = s .heating; cooling = s .cooling; minheat = s .minheat; maxheat = s .maxheat; mincool = s .mincool; maxcool = s .maxcool; mode = m }
 
-abbrev withPoints : Settings → Hundredths → Hundredths → Settings
+abbrev pub withPoints : Settings → Hundredths → Hundredths → Settings
 withPoints s h c = record { heating = h; cooling = c; minheat = s .minheat; maxheat = s .maxheat; mincool = s .mincool; maxcool = s .maxcool; mode = s .mode }
 
 abbrev withHeatLimits : Settings → Hundredths → Hundredths → Settings
@@ -131,13 +131,13 @@ module _ (cfg : Config) (v : Valid cfg) where
       (λ h. let c : hasCoolLimits cfg ≡ false = sym (v .auto-limits t) ∙ h in rw t (rw h (rw c refl))))
       (λ t. cases (hasHeatLimits cfg) (λ h. cases (hasCoolLimits cfg) (λ c. rw t (rw h (rw c refl))) (λ c. rw t (rw h (rw c refl)))) (λ h. cases (hasCoolLimits cfg) (λ c. rw t (rw h (rw c refl))) (λ c. rw t (rw h (rw c refl)))))
 
-  limits-by-formula : (a : Attrs) → repairLimits cfg a .settings ≡ repairedLimits cfg (a .settings)
+  pub limits-by-formula : (a : Attrs) → repairLimits cfg a .settings ≡ repairedLimits cfg (a .settings)
   unfolding repairLimits
   limits-by-formula a =
       let b = clampMaxHeat cfg (clampMinHeat cfg a) in
       pull-steps (clampMaxCool cfg (clampMinCool cfg b)) ∙ ap heatPulled (cool-steps b ∙ ap coolClamped (heat-steps a)) ∙ steps-formula (a .settings)
 
-  limits-tested : (s : Settings) → LimitTests cfg (repairedLimits cfg s)
+  pub limits-tested : (s : Settings) → LimitTests cfg (repairedLimits cfg s)
   unfolding repairedLimits clamped widened
   limits-tested s =
       let l = repairedLimits cfg s in
@@ -154,13 +154,13 @@ module _ (cfg : Config) (v : Valid cfg) where
 
   -- the setpoints, from settings whose limits are repaired
   module _ (s : Settings) where
-    abbrev heat : Hundredths
+    abbrev pub heat : Hundredths
     heat = clampHeatSetpoint cfg s (widened (s .heating))
 
-    abbrev cool : Hundredths
+    abbrev pub cool : Hundredths
     cool = clampCoolSetpoint cfg s (widened (s .cooling))
 
-    abbrev clampedPoints : Settings
+    abbrev pub clampedPoints : Settings
     clampedPoints = withPoints s (cond (heats cfg) heat (s .heating)) (cond (cools cfg) cool (s .cooling))
 
     abbrev pushedPoints : Settings
@@ -181,7 +181,7 @@ module _ (cfg : Config) (v : Valid cfg) where
         let w = maxZ (cool .0) (heat .0 +ℤ d) in
         ap hundredths (clamp-within w (minCoolSetpoint cfg s .0) (maxCoolSetpoint cfg s .0) (omega (linear, max-parts (cool .0) (heat .0 +ℤ d))) (omega (linear, max-parts (cool .0) (heat .0 +ℤ d), sum-parts (heat .0) d, sum-parts (maxHeatSetpoint cfg s .0) d)))
 
-  clamp-steps : (a : Attrs) → clampCooling cfg (clampHeating cfg a) .settings ≡ clampedPoints (a .settings)
+  pub clamp-steps : (a : Attrs) → clampCooling cfg (clampHeating cfg a) .settings ≡ clampedPoints (a .settings)
   unfolding clampCooling clampHeating clampCoolSetpoint minCoolSetpoint maxCoolSetpoint
   clamp-steps a = cases (heats cfg) (λ h. cases (cools cfg) (λ c. rw h (rw c refl)) (λ c. rw h (rw c refl))) (λ h. cases (cools cfg) (λ c. rw h (rw c refl)) (λ c. rw h (rw c refl)))
 

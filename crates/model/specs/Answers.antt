@@ -4,7 +4,7 @@ use mathlib.Core.List.{List, [], _∷_, _++_}
 use Prim.Native.Nat.{ℕ, _+_}
 use lib.Dec.{ltb}
 use lib.ListN.{set}
-use Rattle.records.specs.Records.{noNotices, noEvents}
+use Rattle.records.specs.Records.{noNotices, noEvents, nothingRemoved}
 use Rattle.records.specs.declared.Moment.{Moment}
 use Rattle.records.specs.declared.Moment.the-variants.{Never}
 use Rattle.records.specs.declared.Controller.{Controller}
@@ -14,6 +14,7 @@ use Rattle.records.specs.declared.Event.{Event}
 use Rattle.records.specs.declared.EventSlot.{EventSlot}
 use Rattle.records.specs.declared.Notices.{Notices}
 use Rattle.records.specs.declared.Events.{Events}
+use Rattle.records.specs.declared.Removed.{Removed}
 use Rattle.records.specs.declared.Answer.{Answer}
 
 -- number, record, order, notices, events; and the deadline, which only its query gives
@@ -62,9 +63,13 @@ packed l = pushAll noNotices l
 unfoldable pub packedEvents : List Event → Events
 packedEvents l = emitAll noEvents l
 
--- the answer of an outcome
+-- the answer of an outcome, with the amounts that clamping removed of each side (C-12)
+abbrev pub answerWith : Outcome → Removed → Answer
+answerWith o x = record { number = o .number; rec = o .rec; order = o .order; notices = packed (o .notices); events = packedEvents (o .events); deadline = o .deadline; removed = x }
+
+-- and where nothing is removed
 abbrev pub answer : Outcome → Answer
-answer o = record { number = o .number; rec = o .rec; order = o .order; notices = packed (o .notices); events = packedEvents (o .events); deadline = o .deadline }
+answer o = answerWith o nothingRemoved
 
 -- a record and nothing else
 abbrev pub quiet : ℕ → Controller → Outcome

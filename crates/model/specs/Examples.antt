@@ -1,13 +1,15 @@
--- Document 01's four traps and the cases of C-14 and C-20, computed on its plant. docs/THEOREM.md describes each.
+-- Document 01's four traps and the cases of C-12, C-14 and C-20, computed on its plant. docs/THEOREM.md describes each.
 use mathlib.Core.Path.{_≡_}
 use mathlib.Core.Bool.{true, false}
 use mathlib.Core.List.{List, [], _∷_, _++_}
 use Prim.Native.Nat.{ℕ}
 use lib.IntN.{ℤ, pos, negsuc}
+use Rattle.units.specs.Units.{hundredths}
 use Rattle.model.specs.Answers.{Outcome}
 use Rattle.model.specs.Validation.{accepted}
 use Rattle.model.specs.Step.{opened, step}
 use Rattle.model.specs.Plant.{at, plant, plantSettings, noReadings}
+use Rattle.model.specs.Removed.{openingRemoved, removed}
 use Rattle.model.specs.Lists.{Entry, entry, run}
 use Rattle.records.specs.declared.Config.{Config}
 use Rattle.records.specs.declared.Settings.{Settings}
@@ -17,6 +19,7 @@ use Rattle.records.specs.declared.Temperature.the-variants.{NoReading, Reading}
 use Rattle.records.specs.declared.Second.the-variants.{NoSecond, At}
 use Rattle.records.specs.declared.Amount.the-variants.{NoAmount, Moved}
 use Rattle.records.specs.declared.Attributed.the-variants.{Claimed}
+use Rattle.records.specs.declared.Removed.{Removed}
 use Rattle.records.specs.declared.Event.the-variants.{SetpointChange}
 use Rattle.records.specs.declared.Order.the-variants.{NoOrder}
 use Rattle.records.specs.declared.OutOfBandMessage.the-variants.{LocalTemperature, OccupiedHeatingSetpoint, OccupiedCoolingSetpoint, SetpointLimits}
@@ -114,3 +117,64 @@ PanelMovedBoth =
     × (both .events ≡ SetpointChange 3 (at 2250) (at 2300) ∷ SetpointChange 4 (at 2000) (at 2100) ∷ [])
     × (sweptAfter (heatingTurned ∷ []) .rec .change .amount ≡ Moved (at 100))
     × (sweptAfter (coolingTurned ∷ []) .rec .change .amount ≡ Moved (at 50))
+
+-- C-12. "+2.0 taken as +1.4": two degrees asked, 1.4 degrees of room, 60 hundredths removed. Both has an amount for each side; a mode that is not there has none
+abbrev pub amounts : Removed → List ℤ
+amounts x = x .heating .0 ∷ x .cooling .0 ∷ []
+
+abbrev pub nearTop : Controller
+nearTop = run plant first (withoutReadings (WriteOccupiedHeatingSetpoint (at 2760)) ∷ [])
+
+abbrev pub twoDegrees : ℕ → Call
+twoDegrees mode = RaiseLowerSetpoint mode (record { 0 = pos 20 })
+
+abbrev pub TakenAs : Type 0
+TakenAs =
+    (setpoints nearTop ≡ pos 2760 ∷ pos 3010 ∷ [])
+    × (setpoints (step plant nearTop noReadings (twoDegrees 0) .rec) ≡ pos 2900 ∷ pos 3150 ∷ [])
+    × (amounts (removed plant nearTop noReadings (twoDegrees 0)) ≡ pos 60 ∷ pos 0 ∷ [])
+    × (amounts (removed plant nearTop noReadings (twoDegrees 1)) ≡ pos 0 ∷ pos 10 ∷ [])
+    × (amounts (removed plant nearTop noReadings (twoDegrees 2)) ≡ pos 60 ∷ pos 10 ∷ [])
+    × (amounts (removed plant nearTop noReadings (twoDegrees 3)) ≡ pos 0 ∷ pos 0 ∷ [])
+
+-- An out-of-band setpoint has its own side's. Repair has those of its first clamps: cooling, which it then pushes up, has none. A limit that pulls has none either
+abbrev pub FirstClampsAlone : Type 0
+FirstClampsAlone =
+    (amounts (removed plant first noReadings (OutOfBand (OccupiedHeatingSetpoint (at 3000)))) ≡ pos 100 ∷ pos 0 ∷ [])
+    × (amounts (removed plant first noReadings (OutOfBand (OccupiedCoolingSetpoint (at 1500)))) ≡ pos 0 ∷ negsuc 99 ∷ [])
+    × (amounts (removed plant first noReadings (OutOfBand (SetpointLimits (at 2000) (at 1000) (at 1600) (at 1600)))) ≡ pos 650 ∷ pos 650 ∷ [])
+    × (setpoints (opened plant (plantSettings 3000 3000) .rec) ≡ pos 2900 ∷ pos 3150 ∷ [])
+    × (amounts (openingRemoved plant (plantSettings 3000 3000)) ≡ pos 100 ∷ pos 0 ∷ [])
+    × (setpoints (run plant first (withoutReadings (WriteMaxHeatSetpointLimit (at 1900)) ∷ [])) ≡ pos 1900 ∷ pos 2250 ∷ [])
+    × (amounts (removed plant first noReadings (WriteMaxHeatSetpointLimit (at 1900))) ≡ pos 0 ∷ pos 0 ∷ [])
+
+-- The most that an opening removes, on a configuration of heating alone; of cooling, which is clamped and stored all the same, nothing
+abbrev pub heatingAtTop : Config
+heatingAtTop = record {
+  revision = 11;
+  features = 0x001;
+  attributes = 402915329;
+  events = 0;
+  commands = 1;
+  absminheat = at 32767;
+  absmaxheat = at 32767;
+  absmincool = at 0;
+  absmaxcool = at 0;
+  deadband = record { 0 = pos 0 };
+  sequence = 2;
+  delta = at 0;
+}
+
+abbrev pub lowest : Settings
+lowest = record { heating = hundredths (negsuc 32767); cooling = at 0; minheat = at 0; maxheat = at 0; mincool = at 0; maxcool = at 0; mode = 0 }
+
+abbrev pub ServedSidesAlone : Type 0
+ServedSidesAlone =
+    let o = opened heatingAtTop lowest in
+    let m = OutOfBand (OccupiedCoolingSetpoint (at 5)) in
+    (o .number ≡ 0)
+    × (setpoints (o .rec) ≡ pos 32767 ∷ pos 0 ∷ [])
+    × (amounts (openingRemoved heatingAtTop lowest) ≡ negsuc 65534 ∷ pos 0 ∷ [])
+    × (step heatingAtTop (o .rec) noReadings m .number ≡ 0)
+    × (setpoints (step heatingAtTop (o .rec) noReadings m .rec) ≡ pos 32767 ∷ pos 0 ∷ [])
+    × (amounts (removed heatingAtTop (o .rec) noReadings m) ≡ pos 0 ∷ pos 0 ∷ [])

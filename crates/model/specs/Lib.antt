@@ -19,6 +19,7 @@ pub mod LocalChange
 pub mod Sweep
 pub mod Causes
 pub mod Step
+pub mod Removed
 pub mod Lists
 pub mod Plans
 pub mod Plant

@@ -8,7 +8,7 @@ use lib.Dec.{eqb, ltb}
 use Rattle.units.specs.Units.{widened, raised}
 use Rattle.units.specs.declared.Hundredths.{Hundredths}
 use Rattle.units.specs.declared.Tenths.{Tenths}
-use Rattle.records.specs.Records.{withAttrs, changedTo, withHeating, withCooling, withMinHeat, withMaxHeat, withMinCool, withMaxCool, withMode, withSetpoints, updated}
+use Rattle.records.specs.Records.{withAttrs, changedTo, withHeating, withCooling, withMinHeat, withMaxHeat, withMinCool, withMaxCool, withMode, withSetpoints, updated, nothingRemoved}
 use Rattle.model.specs.Answers.{Outcome, onlyIf, quiet}
 use Rattle.model.specs.Refusals.{Row, row}
 use Rattle.model.specs.Served.{noticed}
@@ -18,6 +18,8 @@ use Rattle.model.specs.Orders.{orderOf, askSweep}
 use Rattle.model.specs.Writes.{relayNotices, sourceNotices, coolingWithGap, heatingWithGap, recordedIf, heatingRows, coolingRows, minHeatRows, maxHeatRows, minCoolRows, maxCoolRows, modeRows, writeOccupiedHeatingSetpoint, writeOccupiedCoolingSetpoint, writeMinHeatSetpointLimit, writeMaxHeatSetpointLimit, writeMinCoolSetpointLimit, writeMaxCoolSetpointLimit, writeSystemMode}
 use Rattle.model.specs.RaiseBoth.{heatingTarget, coolingTarget}
 use Rattle.model.specs.RaiseLower.{raiseRows, raiseLowerSetpoint}
+use Rattle.model.specs.Removed.{heatingAlone, coolingAlone, heatingRaiseRemoved, coolingRaiseRemoved, bothRaiseRemoved, removedWhenDone, removed, CoolingPushCutsNothing, HeatingPushCutsNothing}
+use Rattle.model.specs.Sound.{sound}
 use Rattle.model.specs.Step.{stepSound}
 use Rattle.records.specs.declared.Config.{Config}
 use Rattle.records.specs.declared.Settings.{Settings}
@@ -32,27 +34,28 @@ use Rattle.records.specs.declared.Stored.{Stored}
 use Rattle.records.specs.declared.Stored.the-variants.{Nothing, MinHeat, MaxHeat, MinCool, MaxCool, Mode}
 use Rattle.records.specs.declared.Sides.{Sides}
 use Rattle.records.specs.declared.Sides.the-variants.{Neither, Heating, Cooling, Both}
+use Rattle.records.specs.declared.Removed.{Removed}
 use Rattle.records.specs.declared.Plan.{Plan}
 use Rattle.records.specs.declared.Planned.{Planned}
 use Rattle.records.specs.declared.Planned.the-variants.{NoWrite, Write}
 
 -- refused: nothing is stored
 abbrev pub refusal : Settings → ℕ → Plan
-refusal s n = record { stored = Nothing; heating = s .heating; cooling = s .cooling; sides = Neither; number = n; source = external; arms = false }
+refusal s n = record { stored = Nothing; heating = s .heating; cooling = s .cooling; sides = Neither; number = n; source = external; arms = false; removed = nothingRemoved }
 
 -- a limit or the mode, and no setpoint
 abbrev pub settingAlone : Settings → Stored → Plan
-settingAlone s x = record { stored = x; heating = s .heating; cooling = s .cooling; sides = Neither; number = 0; source = external; arms = false }
+settingAlone s x = record { stored = x; heating = s .heating; cooling = s .cooling; sides = Neither; number = 0; source = external; arms = false; removed = nothingRemoved }
 
 -- heating, cooling or both to a target
 abbrev pub heatingTo : Settings → Stored → Hundredths → Plan
-heatingTo s x v = record { stored = x; heating = v; cooling = s .cooling; sides = Heating; number = 0; source = external; arms = false }
+heatingTo s x v = record { stored = x; heating = v; cooling = s .cooling; sides = Heating; number = 0; source = external; arms = false; removed = nothingRemoved }
 
 abbrev pub coolingTo : Settings → Stored → Hundredths → Plan
-coolingTo s x v = record { stored = x; heating = s .heating; cooling = v; sides = Cooling; number = 0; source = external; arms = false }
+coolingTo s x v = record { stored = x; heating = s .heating; cooling = v; sides = Cooling; number = 0; source = external; arms = false; removed = nothingRemoved }
 
 abbrev pub bothTo : Hundredths → Hundredths → Plan
-bothTo h c = record { stored = Nothing; heating = h; cooling = c; sides = Both; number = 0; source = external; arms = false }
+bothTo h c = record { stored = Nothing; heating = h; cooling = c; sides = Both; number = 0; source = external; arms = false; removed = nothingRemoved }
 
 -- refused with the first failure's number, else the plan
 unfoldable pub planUnless : List Row → Settings → Plan → Plan
@@ -88,14 +91,19 @@ planMaxCoolLimit cfg s v = planUnless (maxCoolRows cfg s v) s (coolingPulled cfg
 unfoldable pub planSystemMode : Config → Settings → ℕ → Plan
 planSystemMode cfg s v = planUnless (modeRows cfg v) s (settingAlone s (Mode v))
 
+-- beside the targets, what clamping took off those asked (C-12)
+abbrev pub removing : Plan → Removed → Plan
+removing p x = record { stored = p .stored; heating = p .heating; cooling = p .cooling; sides = p .sides; number = p .number; source = p .source; arms = p .arms; removed = x }
+
 -- Heat 0, Cool 1, Both 2
 unfoldable pub planSides : Config → Settings → ℕ → Tenths → Plan
 planSides cfg s mode amount =
-    cond (eqb mode 0) (heatingTo s Nothing (raised (s .heating) amount (minHeatSetpoint cfg s) (maxHeatSetpoint cfg s)))
-    (cond (eqb mode 1) (coolingTo s Nothing (raised (s .cooling) amount (minCoolSetpoint cfg s) (maxCoolSetpoint cfg s))) (bothTo (heatingTarget cfg s amount) (coolingTarget cfg s amount)))
+    cond (eqb mode 0) (removing (heatingTo s Nothing (raised (s .heating) amount (minHeatSetpoint cfg s) (maxHeatSetpoint cfg s))) (heatingAlone (heatingRaiseRemoved cfg s amount)))
+    (cond (eqb mode 1) (removing (coolingTo s Nothing (raised (s .cooling) amount (minCoolSetpoint cfg s) (maxCoolSetpoint cfg s))) (coolingAlone (coolingRaiseRemoved cfg s amount)))
+    (removing (bothTo (heatingTarget cfg s amount) (coolingTarget cfg s amount)) (bothRaiseRemoved cfg s amount)))
 
 abbrev pub arming : Plan → Plan
-arming p = record { stored = p .stored; heating = p .heating; cooling = p .cooling; sides = p .sides; number = p .number; source = p .source; arms = true }
+arming p = record { stored = p .stored; heating = p .heating; cooling = p .cooling; sides = p .sides; number = p .number; source = p .source; arms = true; removed = p .removed }
 
 -- raise/lower arms first, refused or not
 unfoldable pub planRaiseLower : Config → Settings → ℕ → Tenths → Plan
@@ -210,6 +218,10 @@ carriedOut cfg d r p =
     let q = cond (p .arms) (armedClock cfg d r) r in
     cond (eqb (p .number) 0) (performed cfg d q p) (quiet (p .number) q)
 
+-- the amounts of its answer: none where it is refused
+unfoldable pub planRemoved : Plan → Removed
+planRemoved p = cond (eqb (p .number) 0) (p .removed) nothingRemoved
+
 -- Each write is its plan carried out, on every record.
 abbrev pub HeatingSetpointCarried : Type 0
 HeatingSetpointCarried = (cfg : Config) (r : Controller) (d : Readings) (v : Hundredths) → writeOccupiedHeatingSetpoint cfg r d v ≡ carriedOut cfg d r (planHeatingSetpoint cfg (r .attrs .settings) v)
@@ -239,3 +251,27 @@ RaiseLowerCarried =
 -- So a call that is planned is its plan carried out.
 abbrev pub PlannedCarried : Type 0
 PlannedCarried = (cfg : Config) (r : Controller) (d : Readings) (k : Call) (p : Plan) → planned cfg (r .attrs .settings) k ≡ Write p → stepSound cfg r d k ≡ carriedOut cfg d r p
+
+-- And what the call removes stands in its plan. A call that is not planned is done, or removes nothing.
+abbrev pub PlannedRemoved : Type 0
+PlannedRemoved =
+    (cfg : Config) (r : Controller) (d : Readings) (k : Call) (p : Plan) → sound cfg r ≡ true → planned cfg (r .attrs .settings) k ≡ Write p → removed cfg r d k ≡ planRemoved p
+
+abbrev pub UnplannedRemoved : Type 0
+UnplannedRemoved =
+    (cfg : Config) (r : Controller) (d : Readings) (k : Call) → sound cfg r ≡ true → planned cfg (r .attrs .settings) k ≡ NoWrite → removed cfg r d k ≡ removedWhenDone cfg (r .attrs) k
+
+-- C-12: the gap push cuts nothing, whichever write makes one, since what it asks lies within the other side's limits in force. t has the limit and the targets
+-- in it: the other side gives way to a single one, heating to both
+abbrev pub pushedFrom : Settings → Plan → Settings
+pushedFrom s p = withSetpoints (withStored s (p .stored)) (p .heating) (p .cooling)
+
+abbrev pub PushCutsNothing : Config → Settings → Sides → Type 0
+PushCutsNothing cfg t Neither = Unit {0}
+PushCutsNothing cfg t Heating = CoolingPushCutsNothing cfg t (t .heating)
+PushCutsNothing cfg t Cooling = HeatingPushCutsNothing cfg t (t .cooling)
+PushCutsNothing cfg t Both = HeatingPushCutsNothing cfg t (t .cooling)
+
+abbrev pub GapPushCutsNothing : Type 0
+GapPushCutsNothing =
+    (cfg : Config) (r : Controller) (k : Call) (p : Plan) → sound cfg r ≡ true → planned cfg (r .attrs .settings) k ≡ Write p → PushCutsNothing cfg (pushedFrom (r .attrs .settings) p) (p .sides)

@@ -8,6 +8,7 @@ use records::Controller;
 use records::EventState;
 use records::Moment;
 use records::Order;
+use records::Removed;
 use records::Second;
 use records::SetpointChangeState;
 use records::Settings;
@@ -17,6 +18,7 @@ use records::Temperature;
 use text::Page;
 use text::Value;
 use units::Hundredths;
+use units::Wide;
 
 fn temperature(t: Temperature) -> Value {
     match t {
@@ -58,6 +60,13 @@ fn degrees(page: &mut Page, at: usize, name: usize, v: Hundredths) -> usize
     ensures { λ r. ⌜ Within at 32 r ⌝ }
 {
     text::field(page, at, name, Value::Degrees(v))
+}
+
+fn difference(page: &mut Page, at: usize, name: usize, v: Wide) -> usize
+    requires { ⌜ Room at 32 ⌝ }
+    ensures { λ r. ⌜ Within at 32 r ⌝ }
+{
+    text::field(page, at, name, Value::Difference(v))
 }
 
 // Two setpoints, the second after a slash.
@@ -169,7 +178,7 @@ fn record(page: &mut Page, at: usize, r: Controller) -> usize
     change(page, a, r.change)
 }
 
-// The answer of a call or an opening, without its newline.
+// The answer of a call or an opening, without deadline, amounts removed and newline.
 pub fn answer(page: &mut Page, at: usize, a: Answer) -> usize
     requires { ⌜ Room at 2208 ⌝ }
     ensures { λ r. ⌜ Within at 2208 r ⌝ }
@@ -180,4 +189,13 @@ pub fn answer(page: &mut Page, at: usize, a: Answer) -> usize
     let b = order(page, b, o);
     let b = notice_lists::notices(page, b, a.notices);
     event_lists::events(page, b, a.events)
+}
+
+// The amounts that clamping removed. They end an answer's line, after a deadline.
+pub fn removed(page: &mut Page, at: usize, x: Removed) -> usize
+    requires { ⌜ Room at 64 ⌝ }
+    ensures { λ r. ⌜ Within at 64 r ⌝ }
+{
+    let a = difference(page, at, text::CUT, x.heating);
+    difference(page, a, text::SLASH, x.cooling)
 }

@@ -3,7 +3,8 @@ use Prim.Native.Nat.{ℕ, _+_, _≤_}
 use mathlib.Core.Path.{_≡_}
 use lib.IntN.{pos}
 use Rattle.records.specs.Records.{zeroHundredths}
-use Rattle.model.specs.Answers.{answer, quiet}
+use Rattle.model.specs.Answers.{answerWith, answer, quiet}
+use Rattle.model.specs.Removed.{openingRemoved, removed}
 use Rattle.model.specs.Step.{opened, step}
 use Rattle.records.specs.declared.Answer.{Answer}
 use Rattle.records.specs.declared.Config.{Config}
@@ -23,7 +24,7 @@ Sound s = (s .place .held ≤ 251) × (s .place .filled ≤ 65536)
 
 -- the longest answer fits
 abbrev pub Ready : Place → Type 0
-Ready p = p .filled + 2304 ≤ 65536
+Ready p = p .filled + 2336 ≤ 65536
 
 -- the configuration after a line
 abbrev pub configured : Config → Line → Config
@@ -40,8 +41,8 @@ answered c r Nothing = answer (quiet 0 r)
 answered c r Unreadable = answer (quiet 0 r)
 answered c r (ConfigLine given) = answer (quiet 0 r)
 answered c r (Record given) = answer (quiet 0 given)
-answered c r (Open a d) = answer (opened c a)
-answered c r (CallLine k d) = answer (step c r d k)
+answered c r (Open a d) = answerWith (opened c a) (openingRemoved c a)
+answered c r (CallLine k d) = answerWith (step c r d k) (removed c r d k)
 
 -- a served line: nothing of it is held, its answer is on the page, and configuration and record are those after it
 abbrev pub Served : Line → Session → Session → Type 0

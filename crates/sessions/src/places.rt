@@ -47,7 +47,7 @@ pub(crate) fn make_room(p: Place, page: &mut Page) -> Place
     requires { ⌜ p .filled ≤ 65536 ⌝ }
     ensures { λ r. ⌜ (r .held ≡ p .held) × Ready r ⌝ }
 {
-    if 63232 < p.filled {
+    if 63200 < p.filled {
         return flush(p, page);
     }
     p

@@ -55,24 +55,25 @@ fn end_line(page: &mut Page, at: usize) -> usize
 }
 
 // A deadline query has its deadline besides.
-fn finish(page: &mut Page, at: usize, with_deadline: bool, m: Moment) -> usize
-    requires { ⌜ Room at 64 ⌝ }
-    ensures { λ r. ⌜ Within at 64 r ⌝ }
+fn write_deadline(page: &mut Page, at: usize, with_deadline: bool, m: Moment) -> usize
+    requires { ⌜ Room at 32 ⌝ }
+    ensures { λ r. ⌜ Within at 32 r ⌝ }
 {
     if with_deadline {
-        let b = text::field(page, at, text::DEADLINE, moment(m));
-        return end_line(page, b);
+        return text::field(page, at, text::DEADLINE, moment(m));
     }
-    end_line(page, at)
+    at
 }
 
 fn write_answer(page: &mut Page, at: usize, a: Answer, with_deadline: bool) -> usize
-    requires { ⌜ Room at 2304 ⌝ }
-    ensures { λ r. ⌜ Within at 2304 r ⌝ }
+    requires { ⌜ Room at 2336 ⌝ }
+    ensures { λ r. ⌜ Within at 2336 r ⌝ }
 {
     let b = printing::answer(page, at, a);
     let m = a.deadline;
-    finish(page, b, with_deadline, m)
+    let b = write_deadline(page, b, with_deadline, m);
+    let b = printing::removed(page, b, a.removed);
+    end_line(page, b)
 }
 
 // A line that cannot be read answers `error` and its number.
@@ -85,8 +86,8 @@ fn write_error(page: &mut Page, at: usize, line: u64) -> usize
 }
 
 pub(crate) fn write_reply(page: &mut Page, at: usize, number: u64, line: Line, a: Answer) -> usize
-    requires { ⌜ Room at 2304 ⌝ }
-    ensures { λ r. ⌜ Within at 2304 r ⌝ }
+    requires { ⌜ Room at 2336 ⌝ }
+    ensures { λ r. ⌜ Within at 2336 r ⌝ }
 {
     match line {
         Line::Nothing => at,

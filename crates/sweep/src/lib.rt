@@ -1,7 +1,7 @@
 // model/specs/Sweep: row 27, timer, sweep, and start as a call.
 ghost use mathlib.Core.Path.{_≡_};
 ghost use mathlib.Core.List.{[]};
-ghost use Rattle.records.specs.Records.{noEvents, withPending};
+ghost use Rattle.records.specs.Records.{noEvents, nothingRemoved, withPending};
 ghost use Rattle.model.specs.Answers.{answer};
 ghost use Rattle.records.specs.declared.Moment.the-variants.{Never};
 ghost use Rattle.records.specs.declared.Order.the-variants.{NoOrder};
@@ -15,6 +15,7 @@ use records::Moment;
 use records::Notices;
 use records::Order;
 use records::Readings;
+use records::Removed;
 use records::answer_number;
 use records::pending_bit;
 
@@ -46,7 +47,7 @@ fn sweep_events(cfg: Config, d: Readings, n: Notices, r: Controller) -> Answer
 }
 
 fn answer_notices(r: Controller, n: Notices) -> Answer
-    ensures { λ q. ⌜ q ≡ record { number = 0; rec = r; order = NoOrder; notices = n; events = noEvents; deadline = Never } ⌝ }
+    ensures { λ q. ⌜ q ≡ record { number = 0; rec = r; order = NoOrder; notices = n; events = noEvents; deadline = Never; removed = nothingRemoved } ⌝ }
 {
     let e = Events::none();
     Answer {
@@ -56,6 +57,7 @@ fn answer_notices(r: Controller, n: Notices) -> Answer
         notices: n,
         events: e,
         deadline: Moment::Never,
+        removed: Removed::NOTHING,
     }
 }
 

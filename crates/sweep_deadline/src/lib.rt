@@ -12,6 +12,7 @@ use records::Moment;
 use records::Notices;
 use records::Order;
 use records::Readings;
+use records::Removed;
 use records::Shadow;
 use records::answer_number;
 use records::event_id;
@@ -70,5 +71,6 @@ pub fn deferred_local_temperature_deadline(cfg: Config, r: Controller, d: Readin
         notices: n,
         events: es,
         deadline: m,
+        removed: Removed::NOTHING,
     }
 }

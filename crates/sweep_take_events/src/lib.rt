@@ -4,6 +4,7 @@ ghost use Rattle.records.specs.declared.Moment.the-variants.{Never};
 ghost use Rattle.records.specs.declared.Order.the-variants.{NoOrder};
 ghost use Rattle.records.specs.declared.Shadow.the-variants.{Seeded};
 ghost use Rattle.sweep_take_events.specs.Parts.{packedTaken};
+ghost use Rattle.records.specs.Records.{nothingRemoved};
 ghost use Rattle.model.specs.Sweep as spec;
 use records::Answer;
 use records::Config;
@@ -13,6 +14,7 @@ use records::Moment;
 use records::Notices;
 use records::Order;
 use records::Readings;
+use records::Removed;
 use records::Shadow;
 use records::Snapshot;
 use records::answer_number;
@@ -72,7 +74,7 @@ pub fn take_events(cfg: Config, d: Readings, r: Controller) -> Taken
 }
 
 pub fn answer_taken(t: Taken, n: Notices) -> Answer
-    ensures { λ q. ⌜ q ≡ record { number = 0; rec = t .rec; order = NoOrder; notices = n; events = t .events; deadline = Never } ⌝ }
+    ensures { λ q. ⌜ q ≡ record { number = 0; rec = t .rec; order = NoOrder; notices = n; events = t .events; deadline = Never; removed = nothingRemoved } ⌝ }
 {
     let r = t.rec;
     let e = t.events;
@@ -83,5 +85,6 @@ pub fn answer_taken(t: Taken, n: Notices) -> Answer
         notices: n,
         events: e,
         deadline: Moment::Never,
+        removed: Removed::NOTHING,
     }
 }

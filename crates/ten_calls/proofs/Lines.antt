@@ -9,7 +9,8 @@ use lib.IntN.{pos}
 use lib.ListN.{length, take, getD}
 use lib.Seq.{take-suc}
 use Rattle.integers.specs.Linear.{posPart}
-use Rattle.model.specs.Answers.{Outcome, answer}
+use Rattle.model.specs.Answers.{Outcome}
+use Rattle.model.specs.Removed.{removed}
 use Rattle.model.specs.Everything.{everything}
 use Rattle.model.specs.Sound.{sound}
 use Rattle.model.specs.Plant.{plant, plantSettings, noReadings, tenCalls, Line, line, linesFrom}
@@ -19,11 +20,14 @@ use Rattle.model.proofs.Kept.{opened-sound, step-sound}
 use Rattle.records.specs.declared.Answer.{Answer}
 use Rattle.records.specs.declared.Call.{Call}
 use Rattle.records.specs.declared.Call.the-variants.{Sweep}
-use Rattle.ten_calls.specs.Lines.{AnswerInTable, called, outcomeAfter}
+use Rattle.ten_calls.specs.Lines.{AnswerInTable, called, outcomeAfter, removedAfter, answerAfter}
 
 pub one-more : (i : ℕ) → i < 9 → outcomeAfter (i + 1) ≡ called (outcomeAfter i) (getD tenCalls i Sweep)
 unfolding outcomeAfter
 one-more i h = rw (add-one, take-suc tenCalls i Sweep) (foldl-append called _ (take i tenCalls) _)
+
+pub removed-more : (i : ℕ) → removedAfter (i + 1) ≡ removed plant (outcomeAfter i .rec) noReadings (getD tenCalls i Sweep)
+removed-more i = ap removedAfter (add-one i)
 
 -- opening and every call leave a sound record
 called-sound : (o : Outcome) (ks : List Call) → sound plant (o .rec) ≡ true → sound plant (foldl called o ks .rec) ≡ true
@@ -49,7 +53,7 @@ whole-in : {l : Line} {ls : List Line} → List·Memᴰ l ls → List·Memᴰ (w
 whole-in (List·Memᴰ·head e) = List·Memᴰ·head (ap whole e)
 whole-in (List·Memᴰ·tail m) = List·Memᴰ·tail (whole-in m)
 
-pub in-table : (n i : ℕ) (a : Answer) → n ≡ 1 + i → i ≤ 9 → a ≡ answer (outcomeAfter i) → AnswerInTable n a
+pub in-table : (n i : ℕ) (a : Answer) → n ≡ 1 + i → i ≤ 9 → a ≡ answerAfter i → AnswerInTable n a
 unfolding outcomeAfter
 in-table n i a e h f =
     let m = lines-have n 1 i (opened plant (plantSettings 2000 2250)) tenCalls e h in

@@ -5,7 +5,7 @@ ghost use Prim.Native.Nat.{_≤_};
 pub const LONGEST: usize = 10;
 
 // Each label, filled up with tildes, of which none has any.
-pub const LABELS: [u8; 330] = *b"\
+pub const LABELS: [u8; 340] = *b"\
     ~~~~~~~~~~\
     \x20h=~~~~~~~\
     \x20c=~~~~~~~\
@@ -27,6 +27,7 @@ pub const LABELS: [u8; 330] = *b"\
     \x20notices=~\
     \x20events=~~\
     \x20deadline=\
+    \x20cut=~~~~~\
     0(~~~~~~~~\
     1(~~~~~~~~\
     3(~~~~~~~~\
@@ -43,9 +44,9 @@ pub const LABELS: [u8; 330] = *b"\
 
 // Where a label begins: the empty one, where there is no such label.
 pub(crate) fn start(i: usize) -> usize
-    ensures { λ r. ⌜ r ≤ 320 ⌝ }
+    ensures { λ r. ⌜ r ≤ 330 ⌝ }
 {
-    if i < 33 {
+    if i < 34 {
         return i * LONGEST;
     }
     0

@@ -7,6 +7,7 @@ ghost use mathlib.Core.Path.{_≡_};
 ghost use lib.ListN.{length};
 ghost use Rattle.text.specs.Pages.{Room, Within};
 use units::Hundredths;
+use units::Wide;
 
 // Of output, as much as is written at a time.
 pub type Page = [u8; 65536];
@@ -19,6 +20,7 @@ pub enum Value {
     Number(u64),
     Code(u64),
     Degrees(Hundredths),
+    Difference(Wide),
 }
 
 // The labels, by their places in the table.
@@ -64,29 +66,31 @@ pub const EVENTS: usize = 19;
 
 pub const DEADLINE: usize = 20;
 
-pub const SYSTEM_MODE_CHANGE: usize = 21;
+pub const CUT: usize = 21;
 
-pub const LOCAL_TEMPERATURE_CHANGE: usize = 22;
+pub const SYSTEM_MODE_CHANGE: usize = 22;
 
-pub const SETPOINT_CHANGE: usize = 23;
+pub const LOCAL_TEMPERATURE_CHANGE: usize = 23;
 
-pub const RUNNING_STATE_CHANGE: usize = 24;
+pub const SETPOINT_CHANGE: usize = 24;
 
-pub const RUNNING_MODE_CHANGE: usize = 25;
+pub const RUNNING_STATE_CHANGE: usize = 25;
 
-pub const CLOSE: usize = 26;
+pub const RUNNING_MODE_CHANGE: usize = 26;
 
-pub const COMMA: usize = 27;
+pub const CLOSE: usize = 27;
 
-pub const SEMICOLON: usize = 28;
+pub const COMMA: usize = 28;
 
-pub const SLASH: usize = 29;
+pub const SEMICOLON: usize = 29;
 
-pub const OK: usize = 30;
+pub const SLASH: usize = 30;
 
-pub const ERROR: usize = 31;
+pub const OK: usize = 31;
 
-pub const NEWLINE: usize = 32;
+pub const ERROR: usize = 32;
+
+pub const NEWLINE: usize = 33;
 
 fn text(out: &mut [u8], at: usize, s: &[u8]) -> usize
     requires { ⌜ at + length (now s) ≤ length (now out) ⌝ }
@@ -124,15 +128,16 @@ fn hex(page: &mut Page, at: usize, n: u64) -> usize
     text(page, at, &digits[..k])
 }
 
-fn degrees(page: &mut Page, at: usize, v: Hundredths) -> usize
+fn signed(page: &mut Page, at: usize, v: Wide) -> usize
     requires { ⌜ Room at 21 ⌝ }
     ensures { λ r. ⌜ Within at 21 r ⌝ }
 {
-    if units::is_less(v, Hundredths::ZERO) {
+    let s = sizes::sign_magnitude(v);
+    if s.negative {
         let a = text(page, at, b"-");
-        return decimal(page, a, sizes::size(v));
+        return decimal(page, a, s.magnitude);
     }
-    decimal(page, at, sizes::size(v))
+    decimal(page, at, s.magnitude)
 }
 
 fn put(page: &mut Page, at: usize, v: Value) -> usize
@@ -144,7 +149,8 @@ fn put(page: &mut Page, at: usize, v: Value) -> usize
         Value::Absent => text(page, at, b"-"),
         Value::Number(n) => decimal(page, at, n),
         Value::Code(n) => hex(page, at, n),
-        Value::Degrees(h) => degrees(page, at, h),
+        Value::Degrees(h) => signed(page, at, units::widen(h)),
+        Value::Difference(w) => signed(page, at, w),
     }
 }
 

@@ -3,7 +3,8 @@ ghost use mir.Syntax.{w16};
 ghost use mir.Val.{SFits};
 ghost use mathlib.Core.Path.{_≡_};
 ghost use lib.Signed.{ltZ};
-ghost use Rattle.units.specs.Units.{hundredths, greater, lesser, clamped, saturatedDifference, within};
+ghost use Rattle.units.specs.Units.{hundredths, greater, lesser, clamped, clamping, saturatedDifference, within, Sum};
+use units::Clamped;
 use units::Hundredths;
 use units::Wide;
 
@@ -42,7 +43,7 @@ pub fn min(a: Wide, b: Wide) -> Wide
     a
 }
 
-// The only step that narrows; `clamp` alone calls it.
+// The only step that narrows; `nearest` alone calls it.
 fn narrow(a: Wide) -> Hundredths
     requires { ⌜ SFits w16 (a .0) ⌝ }
     ensures { λ r. ⌜ r ≡ hundredths (a .0) ⌝ }
@@ -52,7 +53,7 @@ fn narrow(a: Wide) -> Hundredths
 }
 
 // The number nearest to `v` within the limits.
-pub fn clamp(v: Wide, lo: Hundredths, hi: Hundredths) -> Hundredths
+fn nearest(v: Wide, lo: Hundredths, hi: Hundredths) -> Hundredths
     ensures { λ r. ⌜ r ≡ clamped v lo hi ⌝ }
 {
     if units::is_above(lo, v) {
@@ -64,8 +65,21 @@ pub fn clamp(v: Wide, lo: Hundredths, hi: Hundredths) -> Hundredths
     narrow(v)
 }
 
+// The one clamp (C-12): what it gives, and how much of `v` that removes.
+pub fn clamp(v: Wide, lo: Hundredths, hi: Hundredths) -> Clamped
+    requires { ⌜ Sum v ⌝ }
+    ensures { λ r. ⌜ r ≡ clamping v lo hi ⌝ }
+{
+    let given = nearest(v, lo, hi);
+    Clamped {
+        given: given,
+        removed: units::asked_less_given(v, given),
+    }
+}
+
 pub fn saturating_sub(a: Hundredths, b: Hundredths) -> Hundredths
     ensures { λ r. ⌜ r ≡ saturatedDifference a b ⌝ }
 {
-    clamp(units::sub(a, b), Hundredths::LOWEST, Hundredths::HIGHEST)
+    let c = clamp(units::sub(a, b), Hundredths::LOWEST, Hundredths::HIGHEST);
+    c.given
 }

@@ -2,7 +2,7 @@
 use mathlib.Core.Path.{_≡_}
 use mathlib.Core.Bool.{Bool, _||_}
 use Rattle.records.specs.Records.{updated, withSetpoints, noEvents}
-use Rattle.model.specs.Answers.{answer, packed, packedEvents, emitAll}
+use Rattle.model.specs.Answers.{answerWith, packed, packedEvents, emitAll}
 use Rattle.model.specs.Orders.{orderOf, askSweep}
 use Rattle.model.specs.Plans.{withStored, gapKept, anyMoved, movesRecorded, claimedBy, moved, performed}
 use Rattle.records.specs.declared.Answer.{Answer}
@@ -26,6 +26,6 @@ pub performed-answer : (cfg : Config) (d : Readings) (r : Controller) (p : Plan)
     → c ≡ movesRecorded d (p .source) (a .settings) t (r .change) → k ≡ claimedBy (p .sides) cfg u c
     → q ≡ askSweep cfg (record { attrs = record { settings = u; dirty = a .dirty || m }; pending = r .pending; events = r .events; change = k })
     → o ≡ orderOf u → n ≡ packed (noticesOf cfg d (p .stored) (a .settings) t u) → e ≡ noEvents
-    → _≡_ {A = Answer} (record { number = 0; rec = q; order = o; notices = n; events = e; deadline = Never }) (answer (performed cfg d r p))
+    → _≡_ {A = Answer} (record { number = 0; rec = q; order = o; notices = n; events = e; deadline = Never; removed = p .removed }) (answerWith (performed cfg d r p) (p .removed))
 unfolding performed moved packedEvents emitAll
 performed-answer cfg d r p hw ha hu hm hc hk hq ho hn he = simp (he, hn, ho, hq, hk, hc, hm, hu, ha, hw)

@@ -2,7 +2,7 @@
 ghost use mathlib.Core.Path.{_≡_};
 ghost use mathlib.Core.Bool.{cond, not};
 ghost use lib.Dec.{eqb};
-ghost use Rattle.model.specs.Answers.{answer, packed, pushAll};
+ghost use Rattle.model.specs.Answers.{answerWith, packed, pushAll};
 ghost use Rattle.model.specs.Attribution.{armedClock};
 ghost use Rattle.model.specs.Modes.{runningState};
 ghost use Rattle.model.specs.Plans as spec;
@@ -226,7 +226,7 @@ fn notify_all(cfg: Config, d: Readings, x: Stored, s: Settings, t: Settings, u: 
 }
 
 fn perform(cfg: Config, d: Readings, r: Controller, p: Plan) -> Answer
-    ensures { λ q. ⌜ q ≡ answer (spec.performed cfg d r p) ⌝ }
+    ensures { λ q. ⌜ q ≡ answerWith (spec.performed cfg d r p) (p .removed) ⌝ }
 {
     let x = p.stored;
     let sides = p.sides;
@@ -253,6 +253,7 @@ fn perform(cfg: Config, d: Readings, r: Controller, p: Plan) -> Answer
     let o = answers::order_of(u);
     let n = notify_all(cfg, d, x, s, t, u);
     let e = Events::none();
+    let removed = p.removed;
     Answer {
         number: answer_number::DONE,
         rec: q,
@@ -260,6 +261,7 @@ fn perform(cfg: Config, d: Readings, r: Controller, p: Plan) -> Answer
         notices: n,
         events: e,
         deadline: Moment::Never,
+        removed: removed,
     }
 }
 
@@ -274,7 +276,7 @@ fn arm_if(arms: bool, cfg: Config, d: Readings, r: Controller) -> Controller
 
 // Armed first, so a refusal keeps the newly armed clock.
 pub fn carry_out(cfg: Config, d: Readings, r: Controller, p: Plan) -> Answer
-    ensures { λ q. ⌜ q ≡ answer (spec.carriedOut cfg d r p) ⌝ }
+    ensures { λ q. ⌜ q ≡ answerWith (spec.carriedOut cfg d r p) (spec.planRemoved p) ⌝ }
 {
     let q = arm_if(p.arms, cfg, d, r);
     if p.number != answer_number::DONE {

@@ -1,4 +1,4 @@
-// model/specs/Writes: the gap that AUTO keeps between the setpoints.
+// model/specs/Writes: the gap that AUTO keeps between the setpoints. Its clamps cut nothing (C-12), so no amount is handed on.
 ghost use mathlib.Core.Path.{_≡_};
 ghost use Rattle.model.specs.Writes as spec;
 use records::Config;
@@ -26,7 +26,8 @@ pub fn cooling_with_gap(cfg: Config, s: Settings, v: Hundredths) -> Hundredths
     ensures { λ r. ⌜ r ≡ spec.coolingWithGap cfg s v ⌝ }
 {
     if is_too_near_cooling(cfg, s, v) {
-        return limits::clamp_cool_setpoint(cfg, s, units::add(v, limits::dead_band(cfg)));
+        let c = limits::clamp_cool_setpoint(cfg, s, units::add(v, limits::dead_band(cfg)));
+        return c.given;
     }
     s.cooling
 }
@@ -36,7 +37,8 @@ pub fn heating_with_gap(cfg: Config, s: Settings, v: Hundredths) -> Hundredths
     ensures { λ r. ⌜ r ≡ spec.heatingWithGap cfg s v ⌝ }
 {
     if is_too_near_heating(cfg, s, v) {
-        return limits::clamp_heat_setpoint(cfg, s, units::sub(v, limits::dead_band(cfg)));
+        let c = limits::clamp_heat_setpoint(cfg, s, units::sub(v, limits::dead_band(cfg)));
+        return c.given;
     }
     s.heating
 }

@@ -54,11 +54,8 @@ fn write_heat_limit(cfg: Config, t: Settings, refused: bool, code: u16, stored: 
     if limits::in_heat_limits(cfg, t, t.heating) {
         return writes_targets::setting_alone(t, stored);
     }
-    writes_targets::heating_to(
-        t,
-        stored,
-        limits::clamp_heat_setpoint(cfg, t, units::widen(t.heating)),
-    )
+    let c = limits::clamp_heat_setpoint(cfg, t, units::widen(t.heating));
+    writes_targets::heating_to(t, stored, c.given)
 }
 
 fn write_cool_limit(cfg: Config, t: Settings, refused: bool, code: u16, stored: Stored) -> Plan
@@ -73,11 +70,8 @@ fn write_cool_limit(cfg: Config, t: Settings, refused: bool, code: u16, stored: 
     if limits::in_cool_limits(cfg, t, t.cooling) {
         return writes_targets::setting_alone(t, stored);
     }
-    writes_targets::cooling_to(
-        t,
-        stored,
-        limits::clamp_cool_setpoint(cfg, t, units::widen(t.cooling)),
-    )
+    let c = limits::clamp_cool_setpoint(cfg, t, units::widen(t.cooling));
+    writes_targets::cooling_to(t, stored, c.given)
 }
 
 pub fn write_min_heat_setpoint_limit(cfg: Config, s: Settings, v: Hundredths) -> Plan

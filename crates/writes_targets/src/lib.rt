@@ -2,6 +2,7 @@
 ghost use mathlib.Core.Path.{_≡_};
 ghost use Rattle.model.specs.Plans as spec;
 use records::Plan;
+use records::Removed;
 use records::Settings;
 use records::Sides;
 use records::Stored;
@@ -23,6 +24,7 @@ pub fn setting_alone(s: Settings, stored: Stored) -> Plan
         number: answer_number::DONE,
         source: change_source::EXTERNAL,
         arms: false,
+        removed: Removed::NOTHING,
     }
 }
 
@@ -69,5 +71,6 @@ pub fn both_to(h: Hundredths, c: Hundredths) -> Plan
         number: answer_number::DONE,
         source: change_source::EXTERNAL,
         arms: false,
+        removed: Removed::NOTHING,
     }
 }

@@ -1,6 +1,7 @@
-use mathlib.Core.Path.{_∙_, ap, sym}
-use Rattle.model.specs.Answers.{answer}
+use mathlib.Core.Path.{_∙_, ap₂, sym}
+use Rattle.model.specs.Answers.{answerWith}
 use Rattle.controller.proofs.NoWrites.{sequence-alone}
+use Rattle.model.specs.Removed.{removedWhenDone}
 use Rattle.model.specs.Step.{stepSound}
 use Rattle.model.specs.Writes.{armClock}
 use Rattle.model.proofs.Good.{sound-last}
@@ -8,7 +9,7 @@ use Rattle.controller.proofs.serve.Statement.{statement}
 use Rattle.controller.proofs.serve.Tie as tie
 
 pub serve-spec : {M : Type 1} → statement M
-unfolding stepSound armClock
+unfolding stepSound removedWhenDone armClock
 serve-spec =
     tie.close
     (tie.spec
@@ -32,4 +33,7 @@ serve-spec =
     (λ c. simp (c .sweep .ensures, c .before .enum-told3 .given .1))
     (λ c. simp (c .timer .ensures, c .before .enum-told4 .given .1))
     (λ c. simp (c .deferred-local-temperature-deadline .ensures, c .before .enum-told5 .given .1))
-    (λ c. let a = c .before .before in c .quiet-answer2 .ensures ∙ ap answer (sym (sequence-alone (a .args .cfg) (a .args .rec) (a .args .d) (a .args .call) (c .before .match .keys7) (a .pre .1)))))
+    (λ c.
+    let a = c .before .before in
+    let k = sequence-alone (a .args .cfg) (a .args .rec) (a .args .d) (a .args .call) (c .before .match .keys7) (a .pre .1) in
+    c .quiet-answer2 .ensures ∙ ap₂ answerWith (sym (k .0)) (sym (k .1))))

@@ -1,24 +1,34 @@
-use mathlib.Core.Path.{_≡_, _∙_, ap, sym, subst}
+use mathlib.Core.Path.{_≡_, _∙_, ap, ap₂, sym, subst}
 use mathlib.Core.Bool.{true}
-use Rattle.model.specs.Answers.{answer}
+use Rattle.model.specs.Answers.{Outcome, answerWith}
+use Rattle.model.specs.Plans.{planned, carriedOut, planRemoved}
+use Rattle.model.specs.Removed.{removed}
 use Rattle.model.specs.Sound.{sound}
 use Rattle.model.specs.Step.{step, stepSound}
 use Rattle.model.proofs.Kept as kept
 use Rattle.model.proofs.Plans.{planned-carried}
 use Rattle.model.proofs.Refused.{sound-step}
+use Rattle.model.proofs.Removed.{planned-removed, unplanned-removed}
 use Rattle.records.specs.declared.Answer.{Answer}
 use Rattle.records.specs.declared.Call.{Call}
 use Rattle.records.specs.declared.Config.{Config}
 use Rattle.records.specs.declared.Controller.{Controller}
+use Rattle.records.specs.declared.Plan.{Plan}
+use Rattle.records.specs.declared.Planned.the-variants.{Write}
 use Rattle.records.specs.declared.Readings.{Readings}
+use Rattle.records.specs.declared.Removed.{Removed}
 use Rattle.controller.proofs.step_sound.Statement.{statement}
 use Rattle.controller.proofs.step_sound.Tie as tie
 
 -- on a sound record the call's own definition is the step, and leaves a sound record
-stepped : (cfg : Config) (r : Controller) (d : Readings) (k : Call) {q : Answer} → sound cfg r ≡ true → q ≡ answer (stepSound cfg r d k) → (q ≡ answer (step cfg r d k)) × (sound cfg (q .rec) ≡ true)
-stepped cfg r d k h e =
-    let f = e ∙ ap answer (sym (sound-step cfg r d k h)) in
+stepped : (cfg : Config) (r : Controller) (d : Readings) (k : Call) {q : Answer} {x : Removed} → sound cfg r ≡ true → q ≡ answerWith (stepSound cfg r d k) x → x ≡ removed cfg r d k → (q ≡ answerWith (step cfg r d k) (removed cfg r d k)) × (sound cfg (q .rec) ≡ true)
+stepped cfg r d k h e x =
+    let f = e ∙ ap₂ answerWith (sym (sound-step cfg r d k h)) x in
     (f, subst (λ (a : Answer). sound cfg (a .rec) ≡ true) (sym f) (kept.step-sound cfg r d k h))
+
+carried : (cfg : Config) (r : Controller) (d : Readings) (k : Call) {p : Plan} {q : Answer} → sound cfg r ≡ true → planned cfg (r .attrs .settings) k ≡ Write p → q ≡ answerWith (carriedOut cfg d r p) (planRemoved p) → (q ≡ answerWith (step cfg r d k) (removed cfg r d k)) × (sound cfg (q .rec) ≡ true)
+carried cfg r d k {p} h e f =
+    stepped cfg r d k h (f ∙ ap (λ (o : Outcome). answerWith o (planRemoved p)) (sym (planned-carried cfg r d k p e))) (sym (planned-removed cfg r d k p h e))
 
 pub step-sound-spec : {M : Type 1} → statement M
 step-sound-spec =
@@ -30,10 +40,11 @@ step-sound-spec =
     (λ c. c .match .keys2)
     (λ c κs. tt)
     (λ c.
-    let s = c .before .before .before .before in
-    stepped (s .args .cfg) (s .args .rec) (s .args .d) (s .args .call) (s .pre) (c .serve .ensures))
+    let t = c .before in
+    let s = t .before .before .before in
+    stepped (s .args .cfg) (s .args .rec) (s .args .d) (s .args .call) (s .pre) (c .serve .ensures)
+    (sym (unplanned-removed (s .args .cfg) (s .args .rec) (s .args .d) (s .args .call) (s .pre) (sym (t .before .before .plan .ensures) ∙ t .enum-told .given .1))))
     (λ c.
     let b = c .before .before in
     let s = b .before .before .before in
-    stepped (s .args .cfg) (s .args .rec) (s .args .d) (s .args .call) (s .pre)
-    (c .carry-out .ensures ∙ ap answer (sym (planned-carried (s .args .cfg) (s .args .rec) (s .args .d) (s .args .call) _ (sym (b .before .before .plan .ensures) ∙ b .p .given .1))))))
+    carried (s .args .cfg) (s .args .rec) (s .args .d) (s .args .call) (s .pre) (sym (b .before .before .plan .ensures) ∙ b .p .given .1) (c .carry-out .ensures)))

@@ -2,17 +2,22 @@ use mathlib.Core.Path.{_∙_, ap}
 use Rattle.records.specs.Records.{withAttrs}
 use Rattle.model.specs.Answers.{quiet}
 use Rattle.model.specs.Messages.{raiseBits, coolingMessage}
+use Rattle.model.specs.Removed.{coolingRemoved}
 use Rattle.records.specs.declared.Attrs.{Attrs}
 use Rattle.messages.proofs.cooling_message.Statement.{statement}
 use Rattle.messages.proofs.cooling_message.Tie as tie
 
 pub cooling-message-spec : {M : Type 1} → statement M
-unfolding coolingMessage
+unfolding coolingMessage coolingRemoved
 cooling-message-spec =
     tie.close
     (tie.spec
     (λ c κs. tt)
+    (λ c κs. c .widen .ensures .1)
     (λ c κs. tt)
     (λ c κs. tt)
     (λ c κs. tt)
-    (λ c r. c .take .ensures r ∙ ap (λ (b : Attrs). quiet 0 (raiseBits (withAttrs r b) 0x004)) (simp (c .before .update-attrs .ensures, c .before .before .clamp-cool-setpoint .ensures, c .before .before .before .widen .ensures))))
+    (λ c.
+    let k = c .before .before .before .before in
+    let w = k .before .widen .ensures .0 in
+    (λ r. c .take .ensures .0 r ∙ ap (λ (b : Attrs). quiet 0 (raiseBits (withAttrs r b) 0x004)) (simp (c .before .before .update-attrs .ensures, k .clamp-cool-setpoint .ensures, w)), c .take .ensures .1 ∙ simp (c .before .cooling-alone .ensures, k .clamp-cool-setpoint .ensures, w))))

@@ -14,4 +14,7 @@ limits-message-spec =
     (λ c κs. tt)
     (λ c κs. tt)
     (λ c κs. tt)
-    (λ c r. simp (c .order-of .ensures, c .before .repair .ensures, c .before .before .take-limits .ensures, set-again (emitsAny (c .before .before .before .args .cfg)) (r .pending) 0x200 0x2F0 refl)))
+    (λ c.
+    let f = c .before .before .before in
+    let l = f .before in
+    (λ r. simp (c .order-of .ensures, f .repair .ensures .0, l .take-limits .ensures, set-again (emitsAny (l .before .args .cfg)) (r .pending) 0x200 0x2F0 refl), simp (f .repair .ensures .1, l .take-limits .ensures))))

@@ -13,7 +13,7 @@ mode-message-spec =
     (tie.spec
     (λ c κs. tt)
     (λ c κs. tt)
-    (λ c r. simp (c .quiet-taken .ensures r, or-zero-r, ap not (sym (c .before .before .is-supported-system-mode .ensures)) ∙ c .before .if1 .taken))
+    (λ c. (λ r. simp (c .quiet-taken .ensures .0 r, or-zero-r, ap not (sym (c .before .before .is-supported-system-mode .ensures)) ∙ c .before .if1 .taken), c .quiet-taken .ensures .1))
     (λ c κs. tt)
     (λ c κs. tt)
-    (λ c r. simp (c .take .ensures r, c .before .update-attrs .ensures, ap not (sym (c .before .before .before .before .is-supported-system-mode .ensures)) ∙ c .before .before .before .if1 .left)))
+    (λ c. (λ r. simp (c .take .ensures .0 r, c .before .update-attrs .ensures, ap not (sym (c .before .before .before .before .is-supported-system-mode .ensures)) ∙ c .before .before .before .if1 .left), c .take .ensures .1)))

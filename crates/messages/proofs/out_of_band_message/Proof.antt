@@ -12,5 +12,5 @@ out-of-band-message-spec =
     (λ c κs. tt)
     (λ c κs. tt)
     (λ c.
-    let b = c .before .before .before in
-    simp (c .none2 .ensures, c .before .none .ensures, sym (b .take-message .ensures (b .before .args .r)))))
+    let b = c .before .before .before .before in
+    simp (c .none2 .ensures, c .before .none .ensures, sym (b .take-message .ensures .0 (b .before .args .r)), b .take-message .ensures .1)))

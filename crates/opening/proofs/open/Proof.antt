@@ -1,12 +1,13 @@
 use mathlib.Core.Path.{_∙_, sym}
 use borrow.Author.Tests.{ne-eqb, eq-eqb}
+use Rattle.model.specs.Removed.{openingRemoved}
 use Rattle.model.specs.Step.{opened}
 use Rattle.model.specs.Validation.{accepted}
 use Rattle.opening.proofs.open.Statement.{statement}
 use Rattle.opening.proofs.open.Tie as tie
 
 pub open-spec : {M : Type 1} → statement M
-unfolding opened accepted
+unfolding opened openingRemoved accepted
 open-spec =
     tie.close
     (tie.spec

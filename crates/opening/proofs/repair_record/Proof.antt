@@ -12,4 +12,4 @@ repair-record-spec =
     (λ c κs. tt)
     (λ c κs. tt)
     (λ c κs. tt)
-    (λ c. simp (c .none2 .ensures, c .before .none .ensures, c .before .before .order-of .ensures, c .before .before .before .ask-sweep .ensures, c .before .before .before .before .repair .ensures)))
+    (λ c. simp (c .none2 .ensures, c .before .none .ensures, c .before .before .order-of .ensures, c .before .before .before .ask-sweep .ensures, c .before .before .before .before .before .before .repair .ensures .0, c .before .before .before .before .before .before .repair .ensures .1)))

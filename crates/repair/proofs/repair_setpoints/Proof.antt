@@ -10,4 +10,8 @@ repair-setpoints-spec =
     (λ c κs. tt)
     (λ c κs. tt)
     (λ c κs. tt)
-    (λ c. simp (c .push-cooling .ensures, c .before .clamp-cooling .ensures, c .before .before .clamp-heating .ensures)))
+    (λ c.
+    let p = c .before .before .before in
+    let k = p .before in
+    let h = k .before in
+    (simp (p .push-cooling .ensures .0, k .clamp-cooling .ensures .0, h .clamp-heating .ensures .0), simp (k .clamp-cooling .ensures .1, h .clamp-heating .ensures .0, h .clamp-heating .ensures .1))))

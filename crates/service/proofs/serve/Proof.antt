@@ -36,7 +36,8 @@ use denote.Triple.Table.{entered, cited}
 use denote.Triple.Walked.{says, Stays, stay-ref, stay-none, walkOf, AllGo, goes-none, goes-ref, Walks, ends-at, walked, walk-meets}
 use denote.Exit.{yes}
 use denote.Triple.Clauses.{ensured, lasts}
-use Rattle.model.specs.Answers.{answer}
+use Rattle.model.specs.Answers.{answerWith}
+use Rattle.model.specs.Removed.{removed}
 use Rattle.model.specs.Step.{step as stepOf}
 use Rattle.records.specs.declared.Controller.{Controller}
 use Rattle.records.specs.declared.Answer.{Answer}
@@ -114,8 +115,8 @@ module _ {M : Type 1} (𝓤 : URA M) (H : Heap 𝓤) (A : Atoms 𝓤) (at-mem : 
   abbrev RecC : Contract 𝓤
   RecC = tripleOf 𝓤 H A rec.signature (rec.spec 𝓤 H A at-mem run)
 
-  stepped-of : (h : Controller) (cfg : Config) (d : Readings) (k : Call) (r : Answer) → ent 𝓤 (ensured 𝓤 H A step.ended (step.clauses 𝓤 H A at-mem run) tt (cfg, (h, (d, (k, tt)))) tt r) (fact 𝓤 (r ≡ answer (stepOf cfg h d k)))
-  stepped-of h cfg d k r = exE 𝓤 _ (λ ws. snd∗ 𝓤 (sem 𝓤 H A (lasts step.ended tt (cfg, (h, (d, (k, tt)))) ws)) (fact 𝓤 (r ≡ answer (stepOf cfg h d k))))
+  stepped-of : (h : Controller) (cfg : Config) (d : Readings) (k : Call) (r : Answer) → ent 𝓤 (ensured 𝓤 H A step.ended (step.clauses 𝓤 H A at-mem run) tt (cfg, (h, (d, (k, tt)))) tt r) (fact 𝓤 (r ≡ answerWith (stepOf cfg h d k) (removed cfg h d k)))
+  stepped-of h cfg d k r = exE 𝓤 _ (λ ws. snd∗ 𝓤 (sem 𝓤 H A (lasts step.ended tt (cfg, (h, (d, (k, tt)))) ws)) (fact 𝓤 (r ≡ answerWith (stepOf cfg h d k) (removed cfg h d k))))
 
   taken-of : (a : Answer) (r : Controller) → ent 𝓤 (ensured 𝓤 H A rec.ended (rec.clauses 𝓤 H A at-mem run) tt (a, tt) tt r) (fact 𝓤 (r ≡ a .rec))
   taken-of a r = exE 𝓤 _ (λ ws. snd∗ 𝓤 (sem 𝓤 H A (lasts rec.ended tt (a, tt) ws)) (fact 𝓤 (r ≡ a .rec)))
@@ -130,7 +131,7 @@ module _ {M : Type 1} (𝓤 : URA M) (H : Heap 𝓤) (A : Atoms 𝓤) (W : Given
   abbrev Post : Val → SProp 𝓤
   Post = walkOf 𝓤 H A f.ended stayed (f.clauses 𝓤 H A at-mem run) .post (((κ, tt), (q, tt), tt, x, at), tt)
 
-  exits : (r : Answer) (v : Val) (h′ : Controller) → Is Ans.the-row r (v ∷ []) → r ≡ answer (stepOf cfg h d k) → h′ ≡ r .rec
+  exits : (r : Answer) (v : Val) (h′ : Controller) → Is Ans.the-row r (v ∷ []) → r ≡ answerWith (stepOf cfg h d k) (removed cfg h d k) → h′ ≡ r .rec
       → ent 𝓤 (sep 𝓤 (A .obs γ (Rec.the-row .coded .code h′)) (sep 𝓤 (A .bor κ (Body (mem Rec.the-row) b o γ)) (A .lft κ q))) (Post v)
   exits r v h′ isR e₁ e₂ =
       qed W (‵ (fobs γ (Rec.the-row .coded .code h′)) ∷ ‵ (fbor κ (Body (mem Rec.the-row) b o γ)) ∷ ‵ (flft κ q) ∷ []) ∵
@@ -165,7 +166,7 @@ module _ {M : Type 1} (𝓤 : URA M) (H : Heap 𝓤) (A : Atoms 𝓤) (W : Given
         use0 W (raw (StepC 𝓤 H A at-mem run .pre to-step)) (goes-step was) $
         calls-at ! fm (StepC 𝓤 H A at-mem run) known-step to-step (and-then ! (load ! (from ! (stop !)) (look ! 14 refl)) (and-then ! (load ! (from ! (stop !)) (look ! 6 refl)) (and-then ! (load ! (from ! (stop !)) (look ! 12 refl)) (and-then ! (load ! (from ! (stop !)) (look ! 10 refl)) (no-more !))))) (λ v.
         use1 W (later (some (λ (r : Answer). (‵ ftrue ⊛ ‵ (Ans.the-row .own r (v ∷ []))) ⊛ raw (ensured 𝓤 H A step.ended (step.clauses 𝓤 H A at-mem run) tt (cfg, (h, (d, (k, tt)))) tt r)))) (id⊢ 𝓤 _) $ await ! tt $ pick ! (λ r.
-        split ! $ move ! (1 ∷ []) $ use1 W (raw (fact 𝓤 (r ≡ answer (stepOf cfg h d k)))) (stepped-of 𝓤 H A at-mem run h cfg d k r) $ heard ! (r ≡ answer (stepOf cfg h d k)) (λ e₁. split ! $ drop ! $
+        split ! $ move ! (1 ∷ []) $ use1 W (raw (fact 𝓤 (r ≡ answerWith (stepOf cfg h d k) (removed cfg h d k)))) (stepped-of 𝓤 H A at-mem run h cfg d k r) $ heard ! (r ≡ answerWith (stepOf cfg h d k) (removed cfg h d k)) (λ e₁. split ! $ drop ! $
         peeks ! Ans.the-row (Is Ans.the-row) (shows 𝓤 H A Ans.the-row) r (v ∷ []) (λ isR.
         land ! (from ! (stop !)) (init ! 8 {τ = τ-answer} refl (LS.lawful Ans.the-type Ans′.the-laws 𝓤 H A W .typed r _ isR .0)) $
         use1 W (raw (RecC 𝓤 H A at-mem run .pre (to-rec r v))) (goes-rec r v) $

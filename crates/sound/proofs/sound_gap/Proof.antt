@@ -14,4 +14,4 @@ sound-gap-spec =
     (λ c κs. tt)
     (λ c κs. tt)
     (λ c κs. tt)
-    (λ c. simp (c .is-above2 .ensures, c .before .sub2 .ensures, c .before .before .is-above .ensures, c .before .before .before .sub .ensures, c .before .before .before .before .dead-band .ensures, c .before .before .before .before .before .has-heat-limits .ensures, c .before .before .before .before .before .before .auto .ensures)))
+    (λ c. simp (c .is-above2 .ensures, c .before .sub2 .ensures .0, c .before .before .is-above .ensures, c .before .before .before .sub .ensures .0, c .before .before .before .before .dead-band .ensures, c .before .before .before .before .before .has-heat-limits .ensures, c .before .before .before .before .before .before .auto .ensures)))

@@ -11,4 +11,4 @@ are-apart-spec =
     (λ c κs. tt)
     (λ c κs. tt)
     (λ c κs. tt)
-    (λ c. simp (c .is-above .ensures, c .before .max .ensures, c .before .before .sub2 .ensures, c .before .before .before .sub .ensures)))
+    (λ c. simp (c .is-above .ensures, c .before .max .ensures, c .before .before .sub2 .ensures .0, c .before .before .before .sub .ensures .0)))

@@ -2,9 +2,10 @@
 use mathlib.Core.Path.{_≡_, _∙_, ap₂}
 use Prim.Native.Nat.{_+_, _-_, _≤_}
 use native.Mathlib.Omega.{arith}
-use Rattle.model.specs.Answers.{answer}
+use Rattle.model.specs.Answers.{answerWith}
+use Rattle.model.specs.Removed.{openingRemoved}
 use Rattle.model.specs.Step.{opened}
-use Rattle.ten_calls.specs.Lines.{outcomeAfter}
+use Rattle.ten_calls.specs.Lines.{outcomeAfter, answerAfter}
 use Rattle.ten_calls.proofs.Lines.{in-table}
 use Rattle.records.specs.declared.Config.{Config}
 use Rattle.records.specs.declared.Settings.{Settings}
@@ -12,14 +13,14 @@ use Rattle.ten_calls.proofs.main.Statement.{statement}
 use Rattle.ten_calls.proofs.main.Tie as tie
 
 abbrev Inv-loop : tie.InvT-loop
-Inv-loop a₀ i₀ a i = (i ≤ 9) × (a ≡ answer (outcomeAfter i))
+Inv-loop a₀ i₀ a i = (i ≤ 9) × (a ≡ answerAfter i)
 
 abbrev μ-loop : tie.MeasureT-loop
 μ-loop a₀ i₀ a i = 9 - i
 
-opens : (c : tie.After-open Inv-loop μ-loop) → c .«open» .result ≡ answer (outcomeAfter 0)
+opens : (c : tie.After-open Inv-loop μ-loop) → c .«open» .result ≡ answerAfter 0
 unfolding outcomeAfter
-opens c = c .«open» .ensures ∙ ap₂ (λ (x : Config) (y : Settings). answer (opened x y)) (c .before .before .plant .ensures) (c .before .settings .ensures)
+opens c = c .«open» .ensures ∙ ap₂ (λ (x : Config) (y : Settings). answerWith (opened x y) (openingRemoved x y)) (c .before .before .plant .ensures) (c .before .settings .ensures)
 
 pub main-spec : {M : Type 1} → statement M
 main-spec =

@@ -25,4 +25,4 @@ accepts-numbers-spec =
     (λ c κs. tt)
     (λ c κs. tt)
     (λ c κs. tt)
-    (λ c. simp (none-cons, none-last, Bool·not-not, unequal, c .sequence-cools .ensures, c .before .cools .ensures, c .before .before .sequence-heats .ensures, c .before .before .before .heats .ensures, c .before .before .before .before .is-above2 .ensures, c .before .before .before .before .before .sub2 .ensures, c .before .before .before .before .before .before .is-above .ensures, c .before .before .before .before .before .before .before .sub .ensures, c .before .before .before .before .before .before .before .before .dead-band .ensures, c .before .before .before .before .before .before .before .before .before .is-less3 .ensures, c .before .before .before .before .before .before .before .before .before .before .in-hundredths .ensures, c .before .before .before .before .before .before .before .before .before .before .before .is-less2 .ensures, c .before .before .before .before .before .before .before .before .before .before .before .before .is-less .ensures, c .before .before .before .before .before .before .before .before .before .before .before .before .before .listed .ensures, c .before .before .before .before .before .before .before .before .before .before .before .before .before .before .auto .ensures)))
+    (λ c. simp (none-cons, none-last, Bool·not-not, unequal, c .sequence-cools .ensures, c .before .cools .ensures, c .before .before .sequence-heats .ensures, c .before .before .before .heats .ensures, c .before .before .before .before .is-above2 .ensures, c .before .before .before .before .before .sub2 .ensures .0, c .before .before .before .before .before .before .is-above .ensures, c .before .before .before .before .before .before .before .sub .ensures .0, c .before .before .before .before .before .before .before .before .dead-band .ensures, c .before .before .before .before .before .before .before .before .before .is-less3 .ensures, c .before .before .before .before .before .before .before .before .before .before .in-hundredths .ensures, c .before .before .before .before .before .before .before .before .before .before .before .is-less2 .ensures, c .before .before .before .before .before .before .before .before .before .before .before .before .is-less .ensures, c .before .before .before .before .before .before .before .before .before .before .before .before .before .listed .ensures, c .before .before .before .before .before .before .before .before .before .before .before .before .before .before .auto .ensures)))

@@ -1,10 +1,10 @@
 use borrow.Author.Tests.{ne-eqb, eq-eqb}
-use Rattle.model.specs.Plans.{carriedOut}
+use Rattle.model.specs.Plans.{carriedOut, planRemoved}
 use Rattle.writes.proofs.carry_out.Statement.{statement}
 use Rattle.writes.proofs.carry_out.Tie as tie
 
 pub carry-out-spec : {M : Type 1} → statement M
-unfolding carriedOut
+unfolding carriedOut planRemoved
 carry-out-spec =
     tie.close
     (tie.spec

@@ -11,6 +11,6 @@ cooling-with-gap-spec =
     (λ c κs. tt)
     (λ c κs. tt)
     (λ c κs. tt)
-    (λ c κs. tt)
-    (λ c. simp (c .clamp-cool-setpoint .ensures, c .before .add .ensures, c .before .before .dead-band .ensures, sym (c .before .before .before .before .is-too-near-cooling .ensures) ∙ c .before .before .before .if1 .taken))
+    (λ c κs. c .add .ensures .1)
+    (λ c. simp (c .before .clamp-cool-setpoint .ensures, c .before .before .add .ensures .0, c .before .before .before .dead-band .ensures, sym (c .before .before .before .before .before .is-too-near-cooling .ensures) ∙ c .before .before .before .before .if1 .taken))
     (λ c. simp (sym (c .before .before .is-too-near-cooling .ensures) ∙ c .before .if1 .left)))

@@ -11,6 +11,6 @@ heating-with-gap-spec =
     (λ c κs. tt)
     (λ c κs. tt)
     (λ c κs. tt)
-    (λ c κs. tt)
-    (λ c. simp (c .clamp-heat-setpoint .ensures, c .before .sub .ensures, c .before .before .dead-band .ensures, sym (c .before .before .before .before .is-too-near-heating .ensures) ∙ c .before .before .before .if1 .taken))
+    (λ c κs. c .sub .ensures .1)
+    (λ c. simp (c .before .clamp-heat-setpoint .ensures, c .before .before .sub .ensures .0, c .before .before .before .dead-band .ensures, sym (c .before .before .before .before .before .is-too-near-heating .ensures) ∙ c .before .before .before .before .if1 .taken))
     (λ c. simp (sym (c .before .before .is-too-near-heating .ensures) ∙ c .before .if1 .left)))

@@ -11,4 +11,4 @@ is-too-near-cooling-spec =
     (λ c κs. tt)
     (λ c κs. tt)
     (λ c κs. tt)
-    (λ c. simp (c .is-above .ensures, c .before .sub .ensures, c .before .before .dead-band .ensures, c .before .before .before .auto .ensures)))
+    (λ c. simp (c .is-above .ensures, c .before .sub .ensures .0, c .before .before .dead-band .ensures, c .before .before .before .auto .ensures)))

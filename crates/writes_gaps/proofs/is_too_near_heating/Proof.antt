@@ -11,4 +11,4 @@ is-too-near-heating-spec =
     (λ c κs. tt)
     (λ c κs. tt)
     (λ c κs. tt)
-    (λ c. simp (c .is-below .ensures, c .before .add .ensures, c .before .before .dead-band .ensures, c .before .before .before .auto .ensures)))
+    (λ c. simp (c .is-below .ensures, c .before .add .ensures .0, c .before .before .dead-band .ensures, c .before .before .before .auto .ensures)))

@@ -18,6 +18,6 @@ write-cool-limit-spec =
     (λ c κs. tt)
     (λ c. simp (c .setting-alone .ensures, sym (c .before .before .in-cool-limits .ensures) ∙ c .before .if3 .taken, c .before .before .before .if2 .left, ap not (sym (c .before .before .before .before .before .serves .ensures)) ∙ c .before .before .before .before .if1 .left))
     (λ c κs. tt)
+    (λ c κs. c .widen .ensures .1)
     (λ c κs. tt)
-    (λ c κs. tt)
-    (λ c. simp (c .cooling-to .ensures, c .before .clamp-cool-setpoint .ensures, c .before .before .widen .ensures, sym (c .before .before .before .before .in-cool-limits .ensures) ∙ c .before .before .before .if3 .left, c .before .before .before .before .before .if2 .left, ap not (sym (c .before .before .before .before .before .before .before .serves .ensures)) ∙ c .before .before .before .before .before .before .if1 .left)))
+    (λ c. simp (c .cooling-to .ensures, c .before .clamp-cool-setpoint .ensures, c .before .before .widen .ensures .0, sym (c .before .before .before .before .in-cool-limits .ensures) ∙ c .before .before .before .if3 .left, c .before .before .before .before .before .if2 .left, ap not (sym (c .before .before .before .before .before .before .before .serves .ensures)) ∙ c .before .before .before .before .before .before .if1 .left)))

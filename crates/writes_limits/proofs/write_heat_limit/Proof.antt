@@ -18,6 +18,6 @@ write-heat-limit-spec =
     (λ c κs. tt)
     (λ c. simp (c .setting-alone .ensures, sym (c .before .before .in-heat-limits .ensures) ∙ c .before .if3 .taken, c .before .before .before .if2 .left, ap not (sym (c .before .before .before .before .before .serves .ensures)) ∙ c .before .before .before .before .if1 .left))
     (λ c κs. tt)
+    (λ c κs. c .widen .ensures .1)
     (λ c κs. tt)
-    (λ c κs. tt)
-    (λ c. simp (c .heating-to .ensures, c .before .clamp-heat-setpoint .ensures, c .before .before .widen .ensures, sym (c .before .before .before .before .in-heat-limits .ensures) ∙ c .before .before .before .if3 .left, c .before .before .before .before .before .if2 .left, ap not (sym (c .before .before .before .before .before .before .before .serves .ensures)) ∙ c .before .before .before .before .before .before .if1 .left)))
+    (λ c. simp (c .heating-to .ensures, c .before .clamp-heat-setpoint .ensures, c .before .before .widen .ensures .0, sym (c .before .before .before .before .in-heat-limits .ensures) ∙ c .before .before .before .if3 .left, c .before .before .before .before .before .if2 .left, ap not (sym (c .before .before .before .before .before .before .before .serves .ensures)) ∙ c .before .before .before .before .before .before .if1 .left)))

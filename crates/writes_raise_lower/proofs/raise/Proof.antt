@@ -9,5 +9,5 @@ raise-spec =
     (tie.spec
     (λ c κs. tt)
     (λ c κs. tt)
-    (λ c κs. tt)
-    (λ c. simp (c .clamp .ensures, c .before .add .ensures, c .before .before .in-hundredths .ensures)))
+    (λ c κs. c .add .ensures .1)
+    (λ c. simp (c .clamp .ensures, c .before .add .ensures .0, c .before .before .in-hundredths .ensures)))

@@ -1,7 +1,10 @@
+use Rattle.model.specs.Limits.{coolRemoved}
+use Rattle.model.specs.Removed.{coolingRaiseRemoved}
 use Rattle.writes_raise_lower.proofs.raise_cooling.Statement.{statement}
 use Rattle.writes_raise_lower.proofs.raise_cooling.Tie as tie
 
 pub raise-cooling-spec : {M : Type 1} → statement M
+unfolding coolingRaiseRemoved coolRemoved
 raise-cooling-spec =
     tie.close
     (tie.spec

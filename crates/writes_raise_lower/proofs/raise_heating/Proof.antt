@@ -1,7 +1,10 @@
+use Rattle.model.specs.Limits.{heatRemoved}
+use Rattle.model.specs.Removed.{heatingRaiseRemoved}
 use Rattle.writes_raise_lower.proofs.raise_heating.Statement.{statement}
 use Rattle.writes_raise_lower.proofs.raise_heating.Tie as tie
 
 pub raise-heating-spec : {M : Type 1} → statement M
+unfolding heatingRaiseRemoved heatRemoved
 raise-heating-spec =
     tie.close
     (tie.spec

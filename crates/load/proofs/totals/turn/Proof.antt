@@ -1,5 +1,6 @@
 use mathlib.Core.Path.{_∙_, ap, ap₂}
-use Rattle.model.specs.Answers.{answer}
+use Rattle.model.specs.Answers.{answerWith}
+use Rattle.model.specs.Removed.{removed}
 use Rattle.model.specs.Plant.{plant, noReadings}
 use Rattle.model.specs.Step.{step}
 use Rattle.records.specs.declared.Config.{Config}
@@ -22,9 +23,9 @@ returns c =
     c .count .ensures
     ∙ ap₂ (counted l (d .before .args .sweep)) (ap (λ (x : Drawn). x .seed) (d .choose .ensures))
     (s .step .ensures
-    ∙ ap (λ (x : Config). answer (step x (l .rec) (n .no-readings .result) k)) (p .plant .ensures)
-    ∙ ap (λ (x : Readings). answer (step plant (l .rec) x k)) (n .no-readings .ensures)
-    ∙ ap (λ (x : Drawn). answer (step plant (l .rec) noReadings (x .call))) (d .choose .ensures))
+    ∙ ap (λ (x : Config). answerWith (step x (l .rec) (n .no-readings .result) k) (removed x (l .rec) (n .no-readings .result) k)) (p .plant .ensures)
+    ∙ ap (λ (x : Readings). answerWith (step plant (l .rec) x k) (removed plant (l .rec) x k)) (n .no-readings .ensures)
+    ∙ ap (λ (x : Drawn). answerWith (step plant (l .rec) noReadings (x .call)) (removed plant (l .rec) noReadings (x .call))) (d .choose .ensures))
 
 pub turn-spec : {M : Type 1} → statement M
 turn-spec = tie.close (tie.spec (λ c κs. tt) (λ c κs. tt) (λ c κs. tt) (λ c κs. tt) (λ c κs. (c .before .before .before .before .pre, rw (c .step .ensures) (notices-most _), rw (c .step .ensures) (events-most _))) returns)

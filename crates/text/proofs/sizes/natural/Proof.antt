@@ -1,35 +1,25 @@
 -- `text::sizes::natural` meets its contract. Assumes nothing.
-use native.Mathlib.Omega.{arith}
 use mathlib.Core.Path.{_≡_}
 use mathlib.Core.Bool.{true, false}
-use lib.Dec.{T}
-use lib.IntN.{ℤ, pos, negsuc, natAbs}
-use lib.Signed.{ltZ, nonNeg}
-use mir.Syntax.{w32, w64}
-use mir.Val.{SFits, Fits}
-use mir.Facts.{toZ-ofZ}
-use Rattle.integers.specs.Linear.{linear, posPart}
-use Rattle.integers.specs.Widths.{ranges}
+use lib.IntN.{pos}
+use lib.Signed.{ltZ}
+use mir.Syntax.{w64}
+use mir.Val.{SFits}
+use mir.Facts.{toZ-ofZ, fits-natAbs}
+use Rattle.text.proofs.Signs.{natural-below, no-sign, distance-from-0}
 use Rattle.text.proofs.sizes.natural.Statement.{statement}
 use Rattle.text.proofs.sizes.natural.Tie as tie
 
-under : (z : ℤ) → ltZ z (pos 0) ≡ true → _≡_ 0 (posPart z)
-under (pos n) t = absurd (omega linear)
-under (negsuc n) t = omega arith
+below : (c : tie.Then1) → ltZ (c .before .args .x) (pos 0) ≡ true
+below c = rw (toZ-ofZ (c .before .fits .x)) at (c .if1 .taken)
 
-cast : {z : ℤ} → SFits w32 z → ltZ z (pos 0) ≡ false → T (nonNeg z) × Fits w64 (natAbs z)
-cast {z = pos n} f t = (tt, omega arith)
-cast {z = negsuc n} f t = absurd (omega linear)
-
-over : (z : ℤ) → ltZ z (pos 0) ≡ false → natAbs z ≡ posPart z
-over (pos n) t = omega arith
-over (negsuc n) t = absurd (omega linear)
-
-low : (c : tie.Then1) → SFits w32 (c .before .before .args .a .0)
-low c = search ranges
-
-held : (c : tie.Else1) → SFits w32 (c .before .before .args .a .0)
-held c = search ranges
+from-0 : (c : tie.Else1) → ltZ (c .before .args .x) (pos 0) ≡ false
+from-0 c = rw (toZ-ofZ (c .before .fits .x)) at (c .if1 .left)
 
 pub natural-spec : {M : Type 1} → statement M
-natural-spec = tie.close (tie.spec (λ c. under (c .before .before .args .a .0) (rw (toZ-ofZ (low c)) at (c .if1 .taken))) (λ c. rw (toZ-ofZ (held c)) (cast (held c) (rw (toZ-ofZ (held c)) at (c .if1 .left)))) (λ c. rw (toZ-ofZ (held c)) (over (c .before .before .args .a .0) (rw (toZ-ofZ (held c)) at (c .if1 .left)))))
+natural-spec =
+    tie.close
+    (tie.spec
+    (λ c. natural-below (c .before .args .x) (below c))
+    (λ c. let f = c .before .fits .x in rw (toZ-ofZ f) (no-sign (c .before .args .x) (from-0 c), fits-natAbs tt f))
+    (λ c. rw (toZ-ofZ (c .before .fits .x)) (distance-from-0 (c .before .args .x) (from-0 c))))
