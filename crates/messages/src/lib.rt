@@ -4,7 +4,6 @@ ghost use lib.Bits.{bitOr};
 ghost use mathlib.Core.Bool.{cond};
 ghost use Rattle.records.specs.Records.{withPending, zeroWide, nothingRemoved};
 ghost use Rattle.model.specs.Answers.{answerWith, quiet};
-ghost use Rattle.model.specs.Served.{heats, cools};
 ghost use Rattle.model.specs.Removed.{heatingAlone, coolingAlone, heatingRemoved, coolingRemoved, repairRemoved, messageRemoved};
 ghost use Rattle.model.specs.Messages as spec;
 ghost use Rattle.messages.specs.Taken.{Takes};
@@ -54,28 +53,13 @@ fn take(a: Attrs, bits: u16, x: Removed) -> Taken
 }
 
 // A side that is not served has no amount, though its setpoint is clamped all the same.
-fn heating_alone(cfg: Config, w: Wide) -> Removed
-    ensures { λ r. ⌜ r ≡ heatingAlone (cond (heats cfg) w zeroWide) ⌝ }
+fn amount_if(present: bool, w: Wide) -> Wide
+    ensures { λ r. ⌜ r ≡ cond present w zeroWide ⌝ }
 {
-    if served::heats(cfg) {
-        return Removed {
-            heating: w,
-            cooling: Wide::ZERO,
-        };
+    if present {
+        return w;
     }
-    Removed::NOTHING
-}
-
-fn cooling_alone(cfg: Config, w: Wide) -> Removed
-    ensures { λ r. ⌜ r ≡ coolingAlone (cond (cools cfg) w zeroWide) ⌝ }
-{
-    if served::cools(cfg) {
-        return Removed {
-            heating: Wide::ZERO,
-            cooling: w,
-        };
-    }
-    Removed::NOTHING
+    Wide::ZERO
 }
 
 fn heating_message(cfg: Config, a: Attrs, v: Hundredths) -> Taken
@@ -86,11 +70,12 @@ fn heating_message(cfg: Config, a: Attrs, v: Hundredths) -> Taken
     let given = c.given;
     s.heating = given;
     let b = records::update_attrs(a, s);
-    take(
-        b,
-        pending_mask::OCCUPIED_HEATING_SETPOINT,
-        heating_alone(cfg, c.removed),
-    )
+    let amount = amount_if(served::heats(cfg), c.removed);
+    let x = Removed {
+        heating: amount,
+        cooling: Wide::ZERO,
+    };
+    take(b, pending_mask::OCCUPIED_HEATING_SETPOINT, x)
 }
 
 fn cooling_message(cfg: Config, a: Attrs, v: Hundredths) -> Taken
@@ -101,11 +86,12 @@ fn cooling_message(cfg: Config, a: Attrs, v: Hundredths) -> Taken
     let given = c.given;
     s.cooling = given;
     let b = records::update_attrs(a, s);
-    take(
-        b,
-        pending_mask::OCCUPIED_COOLING_SETPOINT,
-        cooling_alone(cfg, c.removed),
-    )
+    let amount = amount_if(served::cools(cfg), c.removed);
+    let x = Removed {
+        heating: Wide::ZERO,
+        cooling: amount,
+    };
+    take(b, pending_mask::OCCUPIED_COOLING_SETPOINT, x)
 }
 
 fn mode_message(cfg: Config, a: Attrs, v: u8) -> Taken

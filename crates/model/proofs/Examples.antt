@@ -50,4 +50,4 @@ first-clamps-alone = (refl, refl, refl, refl, refl, refl, refl)
 
 pub served-sides-alone : ServedSidesAlone
 unfolding everything
-served-sides-alone = (refl, refl, refl, refl, refl, refl)
+served-sides-alone = (refl, refl, refl, refl, refl, refl, refl)

@@ -58,6 +58,10 @@ either : (b : Bool) → cond b nothingRemoved nothingRemoved ≡ nothingRemoved
 either true = refl
 either false = refl
 
+pub unsound-removed : UnsoundRemoved
+unfolding removed
+unsound-removed cfg r d k u = simp (unsound-refused cfg r d k u)
+
 -- refused rows
 by-rows {ℓ} : (P : Plan → Type ℓ) (ws : List Row) (s : Settings) (p : Plan) → ((n : ℕ) → P (refusal s n)) → (Clear ws → P p) → P (planUnless ws s p)
 unfolding planUnless
@@ -152,10 +156,6 @@ unplanned-removed cfg r d SeedEvents h e = either (eqb (step cfg r d SeedEvents 
 unplanned-removed cfg r d Sweep h e = either (eqb (step cfg r d Sweep .number) 0)
 unplanned-removed cfg r d Timer h e = either (eqb (step cfg r d Timer .number) 0)
 unplanned-removed cfg r d Deadline h e = either (eqb (step cfg r d Deadline .number) 0)
-
-pub unsound-removed : UnsoundRemoved
-unfolding removed
-unsound-removed cfg r d k u = simp (unsound-refused cfg r d k u)
 
 abbrev wide : ℤ → Wide
 wide z = record { 0 = z }

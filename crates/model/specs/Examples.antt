@@ -148,7 +148,7 @@ FirstClampsAlone =
     × (setpoints (run plant first (withoutReadings (WriteMaxHeatSetpointLimit (at 1900)) ∷ [])) ≡ pos 1900 ∷ pos 2250 ∷ [])
     × (amounts (removed plant first noReadings (WriteMaxHeatSetpointLimit (at 1900))) ≡ pos 0 ∷ pos 0 ∷ [])
 
--- The most that an opening removes, on a configuration of heating alone; of cooling, which is clamped and stored all the same, nothing
+-- The most that an opening removes, on a configuration of heating alone. Of cooling nothing, by Both or from outside, though that is clamped and stored
 abbrev pub heatingAtTop : Config
 heatingAtTop = record {
   revision = 11;
@@ -175,6 +175,7 @@ ServedSidesAlone =
     (o .number ≡ 0)
     × (setpoints (o .rec) ≡ pos 32767 ∷ pos 0 ∷ [])
     × (amounts (openingRemoved heatingAtTop lowest) ≡ negsuc 65534 ∷ pos 0 ∷ [])
+    × (amounts (removed heatingAtTop (o .rec) noReadings (twoDegrees 2)) ≡ pos 200 ∷ pos 0 ∷ [])
     × (step heatingAtTop (o .rec) noReadings m .number ≡ 0)
     × (setpoints (step heatingAtTop (o .rec) noReadings m .rec) ≡ pos 32767 ∷ pos 0 ∷ [])
     × (amounts (removed heatingAtTop (o .rec) noReadings m) ≡ pos 0 ∷ pos 0 ∷ [])

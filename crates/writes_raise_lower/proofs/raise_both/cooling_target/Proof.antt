@@ -11,4 +11,5 @@ cooling-target-spec =
     (λ c κs. tt)
     (λ c κs. tt)
     (λ c. simp (c .raise-cooling .ensures, sym (c .before .before .cools .ensures) ∙ c .before .if1 .taken))
-    (λ c. simp (sym (c .before .before .cools .ensures) ∙ c .before .if1 .left)))
+    (λ c κs. tt)
+    (λ c. simp (c .passed-over .ensures, sym (c .before .before .cools .ensures) ∙ c .before .if1 .left)))

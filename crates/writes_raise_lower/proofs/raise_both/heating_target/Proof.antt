@@ -11,4 +11,5 @@ heating-target-spec =
     (λ c κs. tt)
     (λ c κs. tt)
     (λ c. simp (c .raise-heating .ensures, sym (c .before .before .heats .ensures) ∙ c .before .if1 .taken))
-    (λ c. simp (sym (c .before .before .heats .ensures) ∙ c .before .if1 .left)))
+    (λ c κs. tt)
+    (λ c. simp (c .passed-over .ensures, sym (c .before .before .heats .ensures) ∙ c .before .if1 .left)))
