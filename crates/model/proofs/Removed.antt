@@ -29,7 +29,7 @@ use Rattle.model.specs.RaiseLower.{raiseRows}
 use Rattle.model.specs.Messages.{heatingMessage, coolingMessage, limitsMessage}
 use Rattle.model.specs.Step.{step, stepSound}
 use Rattle.model.specs.Plant.{noReadings}
-use Rattle.model.specs.Removed.{raiseRemoved, removedWhenDone, removed, UnsoundRemoved, CutsNothing, RepairPushCutsNothing}
+use Rattle.model.specs.Removed.{raiseRemoved, removedWhenDone, removed, RefusedRemovesNothing, CutsNothing, RepairPushCutsNothing}
 use Rattle.model.specs.Plans.{refusal, planUnless, heatingPulled, coolingPulled, planHeatingSetpoint, planCoolingSetpoint, planMinHeatLimit, planMaxHeatLimit, planMinCoolLimit, planMaxCoolLimit, planSystemMode, planSides, planRaiseLower, planned, withStored, moved, performed, carriedOut, planRemoved, pushedFrom, PushCutsNothing, PlannedRemoved, UnplannedRemoved, GapPushCutsNothing}
 use Rattle.records.specs.declared.Config.{Config}
 use Rattle.records.specs.declared.Settings.{Settings}
@@ -58,7 +58,12 @@ either : (b : Bool) → cond b nothingRemoved nothingRemoved ≡ nothingRemoved
 either true = refl
 either false = refl
 
-pub unsound-removed : UnsoundRemoved
+pub refused-removes-nothing : RefusedRemovesNothing
+unfolding removed
+refused-removes-nothing cfg r d k n = simp (ne-eqb (step cfg r d k .number) 0 n)
+
+-- 28 among them
+pub unsound-removed : (cfg : Config) (r : Controller) (d : Readings) (k : Call) → sound cfg r ≡ false → removed cfg r d k ≡ nothingRemoved
 unfolding removed
 unsound-removed cfg r d k u = simp (unsound-refused cfg r d k u)
 

@@ -14,7 +14,6 @@ use Rattle.model.specs.Units.{deadBand}
 use Rattle.model.specs.Limits.{minHeatSetpoint, maxHeatSetpoint, minCoolSetpoint, maxCoolSetpoint, heatRemoved, coolRemoved}
 use Rattle.model.specs.Validation.{accepted}
 use Rattle.model.specs.Repair.{clampHeating, clampCooling, repairLimits}
-use Rattle.model.specs.Sound.{sound}
 use Rattle.model.specs.Writes.{tooNearCooling, tooNearHeating}
 use Rattle.model.specs.Messages.{limitsTaken}
 use Rattle.model.specs.Step.{step}
@@ -98,9 +97,8 @@ removedWhenDone cfg a Deadline = nothingRemoved
 unfoldable pub removed : Config → Controller → Readings → Call → Removed
 removed cfg r d k = cond (eqb (step cfg r d k .number) 0) (removedWhenDone cfg (r .attrs) k) nothingRemoved
 
--- 28 among them
-abbrev pub UnsoundRemoved : Type 0
-UnsoundRemoved = (cfg : Config) (r : Controller) (d : Readings) (k : Call) → sound cfg r ≡ false → removed cfg r d k ≡ nothingRemoved
+abbrev pub RefusedRemovesNothing : Type 0
+RefusedRemovesNothing = (cfg : Config) (r : Controller) (d : Readings) (k : Call) → (step cfg r d k .number ≡ 0 → ⊥) → removed cfg r d k ≡ nothingRemoved
 
 -- The gap push cuts nothing: what it asks lies within the other side's limits in force. Over the writes, each by its plan: GapPushCutsNothing of Plans
 abbrev pub CutsNothing : Wide → Hundredths → Hundredths → Type 0
