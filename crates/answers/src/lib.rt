@@ -17,7 +17,7 @@ use records::Settings;
 use records::pending_mask;
 
 // A full array is left alone. No call gives more than it holds, so nothing is lost: law NothingLost of model.
-fn push(n: Notices, code: u16) -> Notices
+pub fn push(n: Notices, code: u16) -> Notices
     ensures { λ r. ⌜ r ≡ pushed n code ⌝ }
 {
     let at = n.len;

@@ -54,29 +54,29 @@ module _ (cfg : Config) (ok : accepted cfg ≡ true) where
   abbrev PointsEqual : Controller → Controller → Type 0
   PointsEqual q r = SamePoints cfg (q .attrs .settings) (r .attrs .settings)
 
-  step-kept : (e : Entry) (r : Controller) → Good cfg r → Good cfg (after cfg r e)
+  pub step-kept : (e : Entry) (r : Controller) → Good cfg r → Good cfg (after cfg r e)
   step-kept e r g = step-good cfg w (e .readings) r g (e .call)
 
-  run-limits : (l : List Entry) (q r : Controller) → Good cfg q → Good cfg r → LimitsEqual q r → LimitsEqual (run cfg q l) (run cfg r l)
+  pub run-limits : (l : List Entry) (q r : Controller) → Good cfg q → Good cfg r → LimitsEqual q r → LimitsEqual (run cfg q l) (run cfg r l)
   unfolding run
   run-limits [] q r gq gr k = k
   run-limits (e ∷ l) q r gq gr k = run-limits l (after cfg q e) (after cfg r e) (step-kept e q gq) (step-kept e r gr) (step-both cfg ok (e .readings) q r gq gr k (e .call) .limits)
 
-  run-numbers : (l : List Entry) (q r : Controller) → Good cfg q → Good cfg r → LimitsEqual q r → numbers cfg q l ≡ numbers cfg r l
+  pub run-numbers : (l : List Entry) (q r : Controller) → Good cfg q → Good cfg r → LimitsEqual q r → numbers cfg q l ≡ numbers cfg r l
   unfolding numbers
   run-numbers [] q r gq gr k = refl
   run-numbers (e ∷ l) q r gq gr k =
       let s = step-both cfg ok (e .readings) q r gq gr k (e .call) in
       ap₂ _∷_ (s .number) (run-numbers l (after cfg q e) (after cfg r e) (step-kept e q gq) (step-kept e r gr) (s .limits))
 
-  run-points : (l : List Entry) (q r : Controller) → Good cfg q → Good cfg r → LimitsEqual q r → PointsEqual q r → PointsEqual (run cfg q l) (run cfg r l)
+  pub run-points : (l : List Entry) (q r : Controller) → Good cfg q → Good cfg r → LimitsEqual q r → PointsEqual q r → PointsEqual (run cfg q l) (run cfg r l)
   unfolding run
   run-points [] q r gq gr k p = p
   run-points (e ∷ l) q r gq gr k p =
       let s = step-both cfg ok (e .readings) q r gq gr k (e .call) in
       run-points l (after cfg q e) (after cfg r e) (step-kept e q gq) (step-kept e r gr) (s .limits) (s .points p)
 
-  run-mode : (l : List Entry) (q r : Controller) → Good cfg q → Good cfg r → q .attrs .settings .mode ≡ r .attrs .settings .mode → run cfg q l .attrs .settings .mode ≡ run cfg r l .attrs .settings .mode
+  pub run-mode : (l : List Entry) (q r : Controller) → Good cfg q → Good cfg r → q .attrs .settings .mode ≡ r .attrs .settings .mode → run cfg q l .attrs .settings .mode ≡ run cfg r l .attrs .settings .mode
   unfolding run
   run-mode [] q r gq gr e = e
   run-mode (x ∷ l) q r gq gr e =
@@ -212,7 +212,7 @@ module _ (cfg : Config) (ok : accepted cfg ≡ true) (q r : Controller) (gq : Go
       rw (h, run-append cfg front (p .writes ++ p .later) q, run-append cfg front (p .writes ++ p .later) r, run-append cfg (p .writes) (p .later) a, run-append cfg (p .writes) (p .later) b)
       (run-points cfg ok (p .later) (run cfg a (p .writes)) (run cfg b (p .writes)) (run-good cfg v (p .writes) a (g .0)) (run-good cfg v (p .writes) b (g .1)) (run-limits cfg ok (p .writes) a b (g .0) (g .1) k) m)
 
-served-points : (cfg : Config) (v : Valid cfg) (s t : Settings) → SamePoints cfg s t → EqualSetpoints cfg s t
+pub served-points : (cfg : Config) (v : Valid cfg) (s t : Settings) → SamePoints cfg s t → EqualSetpoints cfg s t
 served-points cfg v s t p = record { heating = λ e. p .heating (sym (v .heating-served) ∙ e); cooling = λ e. p .cooling (sym (v .cooling-served) ∙ e) }
 
 pub limits-agree : LimitsAgree

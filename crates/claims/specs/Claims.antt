@@ -1,4 +1,4 @@
--- Line 3 of document 01, over whole lists: agreement of two controllers, the band of each, and both as one claim, `LineThree`; and C-14's.
+-- Line 3 of document 01, over whole lists: agreement of two controllers, the band of each, and both as one claim, `LineThree`; and those of C-11 and C-14.
 -- docs/THEOREM.md says the same in plain words.
 use mathlib.Core.Path.{_≡_}
 use mathlib.Core.Bool.{Bool, true, false, cond}
@@ -20,7 +20,7 @@ use Rattle.records.specs.declared.Settings.{Settings}
 use Rattle.records.specs.declared.Controller.{Controller}
 use Rattle.records.specs.declared.Readings.{Readings}
 use Rattle.records.specs.declared.OutOfBandMessage.the-variants.{SetpointLimits}
-use Rattle.records.specs.declared.Call.the-variants.{WriteOccupiedHeatingSetpoint, WriteOccupiedCoolingSetpoint, WriteSystemMode, RaiseLowerSetpoint, OutOfBand}
+use Rattle.records.specs.declared.Call.the-variants.{WriteOccupiedHeatingSetpoint, WriteOccupiedCoolingSetpoint, WriteSystemMode, RaiseLowerSetpoint, OutOfBand, FactoryReset}
 
 -- every call of a list is accepted
 abbrev pub AllAccepted : Config → Controller → List Entry → Type 0
@@ -131,6 +131,15 @@ BothAtTargets =
     let r = run cfg (opened cfg s .rec) l in
     let q = after cfg r (entry (RaiseLowerSetpoint 2 amount) d) in
     (q .attrs .settings .heating ≡ heatingTarget cfg (r .attrs .settings) amount) × (q .attrs .settings .cooling ≡ coolingTarget cfg (r .attrs .settings) amount)
+
+-- C-11. Two controllers on one accepted configuration, each with its own settings and its own list behind it, both get a reset: at once all settings and dirty marks
+-- are equal, so that they agree, and so they do after every list that both get then, whose calls give equal numbers
+abbrev pub ResetsAgree : Type 0
+ResetsAgree =
+    (cfg : Config) (s t : Settings) (k l m : List Entry) (d e : Readings) → accepted cfg ≡ true →
+    let q = after cfg (run cfg (opened cfg s .rec) k) (entry FactoryReset d) in
+    let r = after cfg (run cfg (opened cfg t .rec) l) (entry FactoryReset e) in
+    (q .attrs ≡ r .attrs) × Agree cfg q r × Agree cfg (run cfg q m) (run cfg r m) × (numbers cfg q m ≡ numbers cfg r m)
 
 -- Line 3. On one accepted configuration two controllers, each opened on its own settings, get the same list of calls: after all of it each has its
 -- setpoints in their band, and once its front part has a limits message, adjacent setpoint writes and a mode write, accepted by one of them, both

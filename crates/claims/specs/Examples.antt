@@ -1,5 +1,5 @@
--- Line 3 at work: lists that meet its premises on document 01's plant, on one that only heats and on one that only cools; and what its premises rule
--- out. docs/THEOREM.md describes each.
+-- Line 3 at work: lists that meet its premises on document 01's plant, on one that only heats and on one that only cools; what its premises rule
+-- out; and C-11's. docs/THEOREM.md describes each.
 use mathlib.Core.Path.{_≡_}
 use mathlib.Core.Bool.{true, false}
 use mathlib.Core.List.{List, [], _∷_, _++_}
@@ -11,7 +11,7 @@ use Rattle.model.specs.Step.{opened, step}
 use Rattle.model.specs.Plant.{at, plant, plantSettings, noReadings}
 use Rattle.model.specs.Lists.{Entry, entry, run, numbers}
 use Rattle.model.specs.Examples.{withoutReadings, setpoints, first}
-use Rattle.claims.specs.Claims.{limitsEntry, LimitsThenWrites, ModeWritten}
+use Rattle.claims.specs.Claims.{limitsEntry, LimitsThenWrites, ModeWritten, shortGapAllowed}
 use Rattle.records.specs.declared.Config.{Config}
 use Rattle.records.specs.declared.Settings.{Settings}
 use Rattle.records.specs.declared.Controller.{Controller}
@@ -24,7 +24,7 @@ use Rattle.records.specs.declared.Event.the-variants.{SetpointChange}
 use Rattle.records.specs.declared.Order.the-variants.{NoOrder}
 use Rattle.records.specs.declared.OutOfBandMessage.the-variants.{LocalTemperature, OccupiedHeatingSetpoint, OccupiedCoolingSetpoint, SetpointLimits}
 use Rattle.records.specs.declared.Call.{Call}
-use Rattle.records.specs.declared.Call.the-variants.{WriteOccupiedHeatingSetpoint, WriteOccupiedCoolingSetpoint, WriteMinHeatSetpointLimit, WriteMaxHeatSetpointLimit, WriteMinCoolSetpointLimit, WriteMaxCoolSetpointLimit, WriteSystemMode, RaiseLowerSetpoint, OutOfBand, SeedEvents, Sweep}
+use Rattle.records.specs.declared.Call.the-variants.{WriteOccupiedHeatingSetpoint, WriteOccupiedCoolingSetpoint, WriteMinHeatSetpointLimit, WriteMaxHeatSetpointLimit, WriteMinCoolSetpointLimit, WriteMaxCoolSetpointLimit, WriteSystemMode, RaiseLowerSetpoint, OutOfBand, SeedEvents, Sweep, FactoryReset}
 
 -- both controllers meet the premises on the list, the calls of both have these numbers, and both end at these setpoints
 pub record Instance (cfg : Config) (s t : Settings) (l : List Entry) (ns : List ℕ) (zs : List ℤ) : Type 0 where
@@ -76,6 +76,7 @@ oneSided features attributes sequence = record {
   deadband = record { 0 = pos 25 };
   sequence = sequence;
   delta = at 50;
+  defaults = plantSettings 2000 2250;
 }
 
 -- HEAT and TEVT, with the heating setpoint and its limits; sequence 2 heats
@@ -131,3 +132,23 @@ abbrev pub LimitWritesDiffer : Type 0
 LimitWritesDiffer =
     (run plant first fourWrites .attrs .settings .maxheat .0 ≡ pos 2000)
     × (run plant (opened plant highMinimum .rec) fourWrites .attrs .settings .maxheat .0 ≡ pos 2900)
+
+-- C-11. A short gap ends at a reset, and two controllers that differ in limits, setpoints and mode are one after it
+abbrev pub shortGap : List Entry
+shortGap = withoutReadings (OutOfBand (OccupiedCoolingSetpoint (at 2100))) ∷ []
+
+abbrev pub thenReset : List Entry → List Entry
+thenReset l = l ++ (withoutReadings FactoryReset ∷ [])
+
+abbrev pub ShortGapEndsAtReset : Type 0
+ShortGapEndsAtReset =
+    (shortGapAllowed plant first false shortGap ≡ true)
+    × (setpoints (run plant first shortGap) ≡ pos 2000 ∷ pos 2100 ∷ [])
+    × (shortGapAllowed plant first false (thenReset shortGap) ≡ false)
+    × (setpoints (run plant first (thenReset shortGap)) ≡ pos 2000 ∷ pos 2250 ∷ [])
+
+abbrev pub OneAfterReset : Type 0
+OneAfterReset =
+    (setpoints (run plant (opened plant otherSettings .rec) before) ≡ pos 1750 ∷ pos 2100 ∷ [])
+    × (run plant (opened plant otherSettings .rec) (thenReset before) .attrs ≡ record { settings = plantSettings 2000 2250; dirty = false })
+    × (run plant first (thenReset shortGap) .attrs ≡ record { settings = plantSettings 2000 2250; dirty = false })

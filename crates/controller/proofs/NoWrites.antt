@@ -15,7 +15,7 @@ use Rattle.records.specs.declared.Controller.{Controller}
 use Rattle.records.specs.declared.Readings.{Readings}
 use Rattle.records.specs.declared.Planned.the-variants.{NoWrite}
 use Rattle.records.specs.declared.Call.{Call}
-use Rattle.records.specs.declared.Call.the-variants.{WriteOccupiedHeatingSetpoint, WriteOccupiedCoolingSetpoint, WriteMinHeatSetpointLimit, WriteMaxHeatSetpointLimit, WriteMinCoolSetpointLimit, WriteMaxCoolSetpointLimit, WriteSystemMode, SetControlSequenceOfOperation, RaiseLowerSetpoint, ArmClock, OutOfBand, SeedEvents, Sweep, Timer, Deadline}
+use Rattle.records.specs.declared.Call.the-variants.{WriteOccupiedHeatingSetpoint, WriteOccupiedCoolingSetpoint, WriteMinHeatSetpointLimit, WriteMaxHeatSetpointLimit, WriteMinCoolSetpointLimit, WriteMaxCoolSetpointLimit, WriteSystemMode, SetControlSequenceOfOperation, RaiseLowerSetpoint, ArmClock, OutOfBand, SeedEvents, Sweep, Timer, Deadline, FactoryReset}
 use denote.Enum.Declared.{tagOf}
 use Rattle.records.proofs.Call as declared
 
@@ -40,3 +40,4 @@ sequence-alone cfg r d SeedEvents h e = absurd (miss first-nine 11 tt h)
 sequence-alone cfg r d Sweep h e = absurd (miss first-nine 12 tt h)
 sequence-alone cfg r d Timer h e = absurd (miss first-nine 13 tt h)
 sequence-alone cfg r d Deadline h e = absurd (miss first-nine 14 tt h)
+sequence-alone cfg r d FactoryReset h e = absurd (miss first-nine 15 tt h)

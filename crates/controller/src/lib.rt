@@ -30,6 +30,7 @@ fn serve(cfg: Config, rec: Controller, d: Readings, call: Call) -> Answer
         Call::Sweep => sweep::sweep(cfg, rec, d),
         Call::Timer => sweep::timer(cfg, rec, d),
         Call::Deadline => sweep_deadline::deferred_local_temperature_deadline(cfg, rec, d),
+        Call::FactoryReset => factory_reset::factory_reset(cfg, rec),
         _ => answers::quiet_answer(answer_number::DONE, rec),
     }
 }

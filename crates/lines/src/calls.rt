@@ -42,6 +42,7 @@ pub(crate) fn call_of(f: Fields) -> Call {
         forms::SWEEP => Call::Sweep,
         forms::TIMER => Call::Timer,
         forms::DEADLINE => Call::Deadline,
+        forms::RESET => Call::FactoryReset,
         _ => Call::OutOfBand(message_of(f)),
     }
 }

@@ -10,14 +10,14 @@ pub const NUMBERS: usize = 22;
 // The readings stand from this place on, after the mark.
 pub const READINGS: usize = 16;
 
-pub const ROWS: usize = 24;
+pub const ROWS: usize = 25;
 
 // A row for each first word: the word, filled up with blanks, and a letter for each number after it, filled up with dots.
 //
 // b, w, d and q: unsigned, of 8, 16, 32 and 64 bits. t and h: tenths and hundredths, signed, of 8 and 16 bits. f: 0 or 1.
-// D, Q, H and S: as d, q, h and h, or none. @: the word that begins the readings. A line may end before @, S and a dot.
-const FORMS: [u8; 792] = *b"\
-    config     wdqqqhhhhtbh..........\
+// D, Q, H and S: as d, q, h and h, or none. s: as h. @: the word that begins the readings. A line may end before @, S, s and a dot.
+const FORMS: [u8; 825] = *b"\
+    config     wdqqqhhhhtbhshhhhhb...\
     open       hhhhhhb@........wwHDDq\
     record     hhhhhhbfwbHdHHDQShhbwb\
     heat       h@..............wwHDDq\
@@ -41,6 +41,7 @@ const FORMS: [u8; 792] = *b"\
     oobtemp    @...............wwHDDq\
     oobrunning @...............wwHDDq\
     oobupdate  @...............wwHDDq\
+    reset      @...............wwHDDq\
 ";
 
 // The rows, by their words.
@@ -91,6 +92,8 @@ pub const OOB_TEMP: usize = 21;
 pub const OOB_RUNNING: usize = 22;
 
 pub const OOB_UPDATE: usize = 23;
+
+pub const RESET: usize = 24;
 
 // A byte of the table, and a dot outside it.
 fn cell(row: usize, i: usize) -> u8 {

@@ -8,7 +8,7 @@ fn most(letter: u8) -> u64 {
         b'b' => 255,
         b't' => 127,
         b'w' => 65535,
-        b'h' | b'H' | b'S' => 32767,
+        b'h' | b'H' | b'S' | b's' => 32767,
         b'd' | b'D' => 4294967295,
         _ => 18446744073709551615,
     }
@@ -18,7 +18,7 @@ fn most(letter: u8) -> u64 {
 fn lowest(letter: u8) -> u64 {
     match letter {
         b't' => 128,
-        b'h' | b'H' | b'S' => 32768,
+        b'h' | b'H' | b'S' | b's' => 32768,
         _ => 0,
     }
 }
@@ -37,7 +37,7 @@ pub(crate) fn fits(letter: u8, f: Field) -> bool {
 // Whether a line may end where this letter's number would stand.
 pub(crate) fn is_end(letter: u8) -> bool {
     match letter {
-        b'@' | b'S' | b'.' => true,
+        b'@' | b'S' | b's' | b'.' => true,
         _ => false,
     }
 }

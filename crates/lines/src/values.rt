@@ -1,4 +1,5 @@
 // The numbers of a sound line as the values that they stand for.
+ghost use Prim.Native.Nat.{_<_};
 use crate::fields::Fields;
 use crate::numbers::as_double;
 use records::Attributed;
@@ -11,6 +12,24 @@ use records::SetpointChangeState;
 use records::Settings;
 use records::Shadow;
 use records::Snapshot;
+
+// A configuration's defaults stand from this place on.
+const DEFAULTS: usize = 12;
+
+// The seven settings that stand from place `i` on, all 0 where no numbers stand there.
+fn settings_from(f: Fields, i: usize) -> Settings
+    requires { ⌜ i < 16 ⌝ }
+{
+    Settings {
+        heating: f.hundredths(i),
+        cooling: f.hundredths(i + 1),
+        minheat: f.hundredths(i + 2),
+        maxheat: f.hundredths(i + 3),
+        mincool: f.hundredths(i + 4),
+        maxcool: f.hundredths(i + 5),
+        mode: f.byte(i + 6),
+    }
+}
 
 pub(crate) fn config_of(f: Fields) -> Config {
     Config {
@@ -26,19 +45,12 @@ pub(crate) fn config_of(f: Fields) -> Config {
         deadband: f.tenths(9),
         sequence: f.byte(10),
         delta: f.hundredths(11),
+        defaults: settings_from(f, DEFAULTS),
     }
 }
 
 pub(crate) fn settings_of(f: Fields) -> Settings {
-    Settings {
-        heating: f.hundredths(0),
-        cooling: f.hundredths(1),
-        minheat: f.hundredths(2),
-        maxheat: f.hundredths(3),
-        mincool: f.hundredths(4),
-        maxcool: f.hundredths(5),
-        mode: f.byte(6),
-    }
+    settings_from(f, 0)
 }
 
 fn attributed_of(f: Fields) -> Attributed {

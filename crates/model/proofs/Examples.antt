@@ -1,7 +1,7 @@
 -- Document 01's four traps and the cases of C-12, C-14, C-20 and C-24, computed.
 use mathlib.Core.Path.{refl}
 use Rattle.model.specs.RepairedSettings.{AdjustmentActs}
-use Rattle.model.specs.Examples.{DirtyThoughUndone, EqualWriteKeepsGap, MessageWithoutOrder, ArmedSecondOnce, SameAmountForBoth, HeatingGivesWay, FirstRecordIsCoolings, PanelMovedBoth, TakenAs, FirstClampsAlone, ServedSidesAlone}
+use Rattle.model.specs.Examples.{DirtyThoughUndone, EqualWriteKeepsGap, MessageWithoutOrder, ArmedSecondOnce, SameAmountForBoth, HeatingGivesWay, FirstRecordIsCoolings, PanelMovedBoth, TakenAs, FirstClampsAlone, ServedSidesAlone, DefaultsRepaired, DefaultsAsDelivered}
 use Rattle.model.specs.Everything.{everything}
 
 pub dirty-though-undone : DirtyThoughUndone
@@ -51,3 +51,11 @@ first-clamps-alone = (refl, refl, refl, refl, refl, refl, refl)
 pub served-sides-alone : ServedSidesAlone
 unfolding everything
 served-sides-alone = (refl, refl, refl, refl, refl, refl, refl)
+
+pub defaults-repaired : DefaultsRepaired
+unfolding everything
+defaults-repaired = (refl, refl, refl, refl, refl, refl, refl, refl, refl, refl, refl)
+
+pub defaults-as-delivered : DefaultsAsDelivered
+unfolding everything
+defaults-as-delivered = (refl, refl, refl)

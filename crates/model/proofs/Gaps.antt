@@ -26,6 +26,7 @@ use Rattle.model.specs.RaiseBoth.{targetsStored, raiseBoth}
 use Rattle.model.specs.RaiseLower.{raiseHeating, raiseCooling, raiseSides, raiseLowerSetpoint}
 use Rattle.model.specs.Messages.{outOfBandMessage, heatingMessage, coolingMessage, modeMessage, limitsMessage, limitsTaken}
 use Rattle.model.specs.Sweep.{Taken, snapshotOf, sameSnapshot, localRecorded, attributedTo, attributeLocalSetpointChange, started, takenFrom, takeEvents, sweepEvents, swept, sweep, timer, seedEvents, deadline}
+use Rattle.model.specs.FactoryReset.{defaultsTaken, factoryReset}
 use Rattle.model.specs.Step.{opened, step, stepSound}
 use Rattle.records.specs.declared.Config.{Config}
 use Rattle.records.specs.declared.Settings.{Settings}
@@ -39,7 +40,7 @@ use Rattle.records.specs.declared.Readings.{Readings}
 use Rattle.records.specs.declared.OutOfBandMessage.{OutOfBandMessage}
 use Rattle.records.specs.declared.OutOfBandMessage.the-variants.{LocalTemperature, RunningState, Update, OccupiedHeatingSetpoint, OccupiedCoolingSetpoint, SystemMode, SetpointLimits}
 use Rattle.records.specs.declared.Call.{Call}
-use Rattle.records.specs.declared.Call.the-variants.{WriteOccupiedHeatingSetpoint, WriteOccupiedCoolingSetpoint, WriteMinHeatSetpointLimit, WriteMaxHeatSetpointLimit, WriteMinCoolSetpointLimit, WriteMaxCoolSetpointLimit, WriteSystemMode, SetControlSequenceOfOperation, RaiseLowerSetpoint, ArmClock, OutOfBand, SeedEvents, Sweep, Timer, Deadline}
+use Rattle.records.specs.declared.Call.the-variants.{WriteOccupiedHeatingSetpoint, WriteOccupiedCoolingSetpoint, WriteMinHeatSetpointLimit, WriteMaxHeatSetpointLimit, WriteMinCoolSetpointLimit, WriteMaxCoolSetpointLimit, WriteSystemMode, SetControlSequenceOfOperation, RaiseLowerSetpoint, ArmClock, OutOfBand, SeedEvents, Sweep, Timer, Deadline, FactoryReset}
 use Rattle.model.specs.Lists.{shortGapAfter}
 use Rattle.model.proofs.Logic.{clash, not-both, by-cond, by-refusal}
 use Rattle.model.proofs.Valid.{Valid, valid}
@@ -187,7 +188,7 @@ module _ (cfg : Config) (v : Valid cfg) (d : Readings) (r : Controller) (g : Goo
   cool-limit-gap a t k code = applied-gap cfg v d _ (cooling-pulled-gap cfg v d (withAttrs r a) t k)
 
   sound-gap : (k : Call) → GapOrAllowed k (stepSound cfg r d k)
-  unfolding stepSound writeOccupiedHeatingSetpoint writeOccupiedCoolingSetpoint writeMinHeatSetpointLimit writeMaxHeatSetpointLimit writeMinCoolSetpointLimit writeMaxCoolSetpointLimit writeSystemMode setControlSequenceOfOperation raiseLowerSetpoint armClock seedEvents sweep timer deadline applied askSweep started claimSetpoints
+  unfolding stepSound writeOccupiedHeatingSetpoint writeOccupiedCoolingSetpoint writeMinHeatSetpointLimit writeMaxHeatSetpointLimit writeMinCoolSetpointLimit writeMaxCoolSetpointLimit writeSystemMode setControlSequenceOfOperation raiseLowerSetpoint armClock seedEvents sweep timer deadline applied askSweep started claimSetpoints factoryReset
   sound-gap (WriteOccupiedHeatingSetpoint x) =
       guarded (WriteOccupiedHeatingSetpoint x) r _ _ refl refl (λ c l. heating-stored-gap cfg v d external x r (g .placed .limits) (not-false (inHeatLimits cfg (r .attrs .settings) x) (c .1 .0)))
   sound-gap (WriteOccupiedCoolingSetpoint x) =
@@ -207,6 +208,7 @@ module _ (cfg : Config) (v : Valid cfg) (d : Readings) (r : Controller) (g : Goo
   sound-gap Sweep = guarded Sweep r _ _ refl refl (λ c l. subst (λ (a : Attrs). GapKept cfg (a .settings)) (sym (swept-attrs cfg d r)) (old (either-way (eqb (swept cfg d r .number) 0) b l)))
   sound-gap Timer = guarded Timer r _ _ refl refl (λ c l. subst (λ (a : Attrs). GapKept cfg (a .settings)) (sym (events-attrs cfg d r)) (old l))
   sound-gap Deadline = old
+  sound-gap FactoryReset = λ l. repair-settled cfg v (defaultsTaken cfg (r .attrs)) .gap
 
   pub step-gap : (k : Call) → GapOrAllowed k (step cfg r d k)
   unfolding step

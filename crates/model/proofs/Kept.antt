@@ -23,6 +23,7 @@ use Rattle.model.specs.Orders.{askSweep}
 use Rattle.model.specs.Writes.{minHeatRows, maxHeatRows, minCoolRows, maxCoolRows, applied, pullHeating, pullCooling, limitStored, writeOccupiedHeatingSetpoint, writeOccupiedCoolingSetpoint, writeMinHeatSetpointLimit, writeMaxHeatSetpointLimit, writeMinCoolSetpointLimit, writeMaxCoolSetpointLimit, writeSystemMode, setControlSequenceOfOperation, armClock}
 use Rattle.model.specs.RaiseLower.{raiseLowerSetpoint}
 use Rattle.model.specs.Sweep.{sweep, timer, seedEvents, deadline}
+use Rattle.model.specs.FactoryReset.{defaultsTaken, factoryReset}
 use Rattle.model.specs.Step.{opened, step, stepSound}
 use Rattle.model.specs.Laws.{OpenedSound, StepSound}
 use Rattle.records.specs.declared.Config.{Config}
@@ -31,7 +32,7 @@ use Rattle.records.specs.declared.Attrs.{Attrs}
 use Rattle.records.specs.declared.Controller.{Controller}
 use Rattle.records.specs.declared.Readings.{Readings}
 use Rattle.records.specs.declared.Call.{Call}
-use Rattle.records.specs.declared.Call.the-variants.{WriteOccupiedHeatingSetpoint, WriteOccupiedCoolingSetpoint, WriteMinHeatSetpointLimit, WriteMaxHeatSetpointLimit, WriteMinCoolSetpointLimit, WriteMaxCoolSetpointLimit, WriteSystemMode, SetControlSequenceOfOperation, RaiseLowerSetpoint, ArmClock, OutOfBand, SeedEvents, Sweep, Timer, Deadline}
+use Rattle.records.specs.declared.Call.the-variants.{WriteOccupiedHeatingSetpoint, WriteOccupiedCoolingSetpoint, WriteMinHeatSetpointLimit, WriteMaxHeatSetpointLimit, WriteMinCoolSetpointLimit, WriteMaxCoolSetpointLimit, WriteSystemMode, SetControlSequenceOfOperation, RaiseLowerSetpoint, ArmClock, OutOfBand, SeedEvents, Sweep, Timer, Deadline, FactoryReset}
 use Rattle.model.proofs.Logic.{neither, or-left, or-right, not-both, by-unless}
 use Rattle.model.proofs.Valid.{Valid, valid}
 use Rattle.model.proofs.Chain.{LimitTests, inside, apart, heat-ordered, is-heat-ordered, cool-ordered, is-cool-ordered, gaps, is-gaps}
@@ -150,7 +151,7 @@ module _ (cfg : Config) (v : Valid cfg) (d : Readings) (r : Controller) (g : Goo
   cool-limit a code t h m = applied-good cfg v d _ (cooling-pulled cfg v d (withAttrs r a) (record { limits = t; mode = m; last = g .last }) h)
 
   sound-good : (k : Call) → GoodOutcome (stepSound cfg r d k)
-  unfolding stepSound writeOccupiedHeatingSetpoint writeOccupiedCoolingSetpoint writeMinHeatSetpointLimit writeMaxHeatSetpointLimit writeMinCoolSetpointLimit writeMaxCoolSetpointLimit writeSystemMode setControlSequenceOfOperation raiseLowerSetpoint armClock seedEvents sweep timer deadline soundHeating soundCooling inHeatLimits inCoolLimits minHeatSetpoint maxHeatSetpoint minCoolSetpoint maxCoolSetpoint
+  unfolding stepSound writeOccupiedHeatingSetpoint writeOccupiedCoolingSetpoint writeMinHeatSetpointLimit writeMaxHeatSetpointLimit writeMinCoolSetpointLimit writeMaxCoolSetpointLimit writeSystemMode setControlSequenceOfOperation raiseLowerSetpoint armClock seedEvents sweep timer deadline soundHeating soundCooling inHeatLimits inCoolLimits minHeatSetpoint maxHeatSetpoint minCoolSetpoint maxCoolSetpoint factoryReset askSweep
   sound-good (WriteOccupiedHeatingSetpoint x) =
       guarded _ _ (λ c. applied-good cfg v d _ (heating-stored cfg v d external x r (rest cfg r g) (g .placed .cooling) (not-false (inHeatLimits cfg (r .attrs .settings) x) (c .1 .0))))
   sound-good (WriteOccupiedCoolingSetpoint x) =
@@ -170,6 +171,9 @@ module _ (cfg : Config) (v : Valid cfg) (d : Readings) (r : Controller) (g : Goo
   sound-good Sweep = guarded _ _ (λ c. swept-good cfg v d r (c .0) g)
   sound-good Timer = guarded _ _ (λ c. events-good cfg v d r (c .0) g)
   sound-good Deadline = g
+  sound-good FactoryReset =
+      let a = defaultsTaken cfg (r .attrs) in
+      record { placed = repair-settled cfg v a .placed; mode = repair-mode cfg v a; last = g .last }
 
   pub step-good : (k : Call) → GoodOutcome (step cfg r d k)
   unfolding step

@@ -10,6 +10,7 @@ pub mod Valid
 pub mod Chain
 pub mod Repair
 pub mod RepairedSettings
+pub mod FactoryReset
 pub mod LocalChange
 pub mod Good
 pub mod Kept

@@ -12,7 +12,7 @@ use Rattle.model.specs.Limits.{inHeatLimits, inCoolLimits}
 use Rattle.model.specs.Modes.{isSupportedSystemMode}
 use Rattle.model.specs.Attribution.{armedClock, claimSetpoints}
 use Rattle.model.specs.Repair.{repaired}
-use Rattle.model.specs.RepairedSettings.{repairedSettings}
+use Rattle.model.specs.RepairedSettings.{supportedMode, repairedSettings}
 use Rattle.model.specs.Sound.{sound}
 use Rattle.model.specs.Orders.{askSweep}
 use Rattle.model.specs.Writes.{applied, storeHeatingSetpoint, storeCoolingSetpoint, pullHeating, pullCooling, writeOccupiedHeatingSetpoint, writeOccupiedCoolingSetpoint, writeMinHeatSetpointLimit, writeMaxHeatSetpointLimit, writeMinCoolSetpointLimit, writeMaxCoolSetpointLimit, writeSystemMode, setControlSequenceOfOperation, armClock}
@@ -20,6 +20,7 @@ use Rattle.model.specs.RaiseBoth.{raiseBoth}
 use Rattle.model.specs.RaiseLower.{raiseHeating, raiseCooling, raiseSides, raiseLowerSetpoint}
 use Rattle.model.specs.Messages.{outOfBandMessage, heatingMessage, coolingMessage, modeMessage, limitsMessage, limitsTaken}
 use Rattle.model.specs.Sweep.{sweep, timer, started, seedEvents, deadline}
+use Rattle.model.specs.FactoryReset.{defaultsTaken, factoryReset}
 use Rattle.model.specs.Step.{step, stepSound}
 use Rattle.records.specs.declared.Config.{Config}
 use Rattle.records.specs.declared.Settings.{Settings}
@@ -29,7 +30,7 @@ use Rattle.records.specs.declared.Readings.{Readings}
 use Rattle.records.specs.declared.OutOfBandMessage.{OutOfBandMessage}
 use Rattle.records.specs.declared.OutOfBandMessage.the-variants.{LocalTemperature, RunningState, Update, OccupiedHeatingSetpoint, OccupiedCoolingSetpoint, SystemMode, SetpointLimits}
 use Rattle.records.specs.declared.Call.{Call}
-use Rattle.records.specs.declared.Call.the-variants.{WriteOccupiedHeatingSetpoint, WriteOccupiedCoolingSetpoint, WriteMinHeatSetpointLimit, WriteMaxHeatSetpointLimit, WriteMinCoolSetpointLimit, WriteMaxCoolSetpointLimit, WriteSystemMode, SetControlSequenceOfOperation, RaiseLowerSetpoint, ArmClock, OutOfBand, SeedEvents, Sweep, Timer, Deadline}
+use Rattle.records.specs.declared.Call.the-variants.{WriteOccupiedHeatingSetpoint, WriteOccupiedCoolingSetpoint, WriteMinHeatSetpointLimit, WriteMaxHeatSetpointLimit, WriteMinCoolSetpointLimit, WriteMaxCoolSetpointLimit, WriteSystemMode, SetControlSequenceOfOperation, RaiseLowerSetpoint, ArmClock, OutOfBand, SeedEvents, Sweep, Timer, Deadline, FactoryReset}
 use Rattle.model.proofs.Logic.{by-cond, by-unless}
 use Rattle.model.proofs.Valid.{Valid}
 use Rattle.model.proofs.Repair.{by-formula}
@@ -60,6 +61,7 @@ modeAfter cfg m SeedEvents = m
 modeAfter cfg m Sweep = m
 modeAfter cfg m Timer = m
 modeAfter cfg m Deadline = m
+modeAfter cfg m FactoryReset = supportedMode cfg (cfg .defaults .mode)
 
 -- a supported mode stays through a repair
 mode-repaired : (cfg : Config) (v : Valid cfg) (a : Attrs) → isSupportedSystemMode cfg (a .settings .mode) ≡ true → repaired cfg a .settings .mode ≡ a .settings .mode
@@ -134,7 +136,7 @@ module _ (cfg : Config) (v : Valid cfg) (d : Readings) (r : Controller) (g : Goo
   message-mode (SetpointLimits x y z w) = mode-repaired cfg v (limitsTaken cfg (r .attrs) x y z w) (g .mode)
 
   sound-mode : (k : Call) → Moded (modeAfter cfg mode k) (stepSound cfg r d k)
-  unfolding stepSound writeOccupiedHeatingSetpoint writeOccupiedCoolingSetpoint writeMinHeatSetpointLimit writeMaxHeatSetpointLimit writeMinCoolSetpointLimit writeMaxCoolSetpointLimit writeSystemMode setControlSequenceOfOperation raiseLowerSetpoint armClock seedEvents sweep timer deadline applied askSweep storeHeatingSetpoint storeCoolingSetpoint started claimSetpoints armedClock
+  unfolding stepSound writeOccupiedHeatingSetpoint writeOccupiedCoolingSetpoint writeMinHeatSetpointLimit writeMaxHeatSetpointLimit writeMinCoolSetpointLimit writeMaxCoolSetpointLimit writeSystemMode setControlSequenceOfOperation raiseLowerSetpoint armClock seedEvents sweep timer deadline applied askSweep storeHeatingSetpoint storeCoolingSetpoint started claimSetpoints armedClock factoryReset repairedSettings
   sound-mode (WriteOccupiedHeatingSetpoint x) = guarded _ _ refl
   sound-mode (WriteOccupiedCoolingSetpoint x) = guarded _ _ refl
   sound-mode (WriteMinHeatSetpointLimit x) = guarded _ _ (pull-heat-mode cfg d (withAttrs r (setMinHeat (r .attrs) x)))
@@ -151,6 +153,7 @@ module _ (cfg : Config) (v : Valid cfg) (d : Readings) (r : Controller) (g : Goo
   sound-mode Sweep = guarded _ _ (ap (λ (a : Attrs). a .settings .mode) (swept-attrs cfg d r))
   sound-mode Timer = guarded _ _ (ap (λ (a : Attrs). a .settings .mode) (events-attrs cfg d r))
   sound-mode Deadline = refl
+  sound-mode FactoryReset = ap (λ (s : Settings). s .mode) (by-formula cfg v (defaultsTaken cfg (r .attrs)))
 
   pub step-mode : (k : Call) → Moded (modeAfter cfg mode k) (step cfg r d k)
   step-mode k = subst (Moded (modeAfter cfg mode k)) (sym (sound-step cfg r d k s)) (sound-mode k)

@@ -20,6 +20,7 @@ use Rattle.model.specs.Writes.{minHeatRows, maxHeatRows, minCoolRows, ma
 use Rattle.model.specs.RaiseLower.{namesAbsentSide, raiseSides, raiseLowerSetpoint}
 use Rattle.model.specs.Messages.{outOfBandMessage, heatingMessage, coolingMessage, modeMessage, limitsMessage, limitsTaken}
 use Rattle.model.specs.Sweep.{sweep, timer, started, seedEvents, deadline}
+use Rattle.model.specs.FactoryReset.{defaultsTaken, factoryReset}
 use Rattle.model.specs.Step.{step, stepSound}
 use Rattle.records.specs.declared.Config.{Config}
 use Rattle.records.specs.declared.Attrs.{Attrs}
@@ -28,7 +29,7 @@ use Rattle.records.specs.declared.Readings.{Readings}
 use Rattle.records.specs.declared.OutOfBandMessage.{OutOfBandMessage}
 use Rattle.records.specs.declared.OutOfBandMessage.the-variants.{LocalTemperature, RunningState, Update, OccupiedHeatingSetpoint, OccupiedCoolingSetpoint, SystemMode, SetpointLimits}
 use Rattle.records.specs.declared.Call.{Call}
-use Rattle.records.specs.declared.Call.the-variants.{WriteOccupiedHeatingSetpoint, WriteOccupiedCoolingSetpoint, WriteMinHeatSetpointLimit, WriteMaxHeatSetpointLimit, WriteMinCoolSetpointLimit, WriteMaxCoolSetpointLimit, WriteSystemMode, SetControlSequenceOfOperation, RaiseLowerSetpoint, ArmClock, OutOfBand, SeedEvents, Sweep, Timer, Deadline}
+use Rattle.records.specs.declared.Call.the-variants.{WriteOccupiedHeatingSetpoint, WriteOccupiedCoolingSetpoint, WriteMinHeatSetpointLimit, WriteMaxHeatSetpointLimit, WriteMinCoolSetpointLimit, WriteMaxCoolSetpointLimit, WriteSystemMode, SetControlSequenceOfOperation, RaiseLowerSetpoint, ArmClock, OutOfBand, SeedEvents, Sweep, Timer, Deadline, FactoryReset}
 use Rattle.model.proofs.Logic.{or-left, or-right}
 use Rattle.model.proofs.Valid.{Valid, valid}
 use Rattle.model.proofs.Good.{Good, is-good}
@@ -49,6 +50,17 @@ module _ (cfg : Config) (v : Valid cfg) (a b : Attrs) (x y z w : Hundredths) whe
   pub taken-points : SamePoints cfg (a .settings) (b .settings) → SamePoints cfg (repaired cfg (limitsTaken cfg a x y z w) .settings) (repaired cfg (limitsTaken cfg b x y z w) .settings)
   unfolding limitsTaken
   taken-points p = repaired-points cfg v _ _ taken-alike (record { heating = p .heating; cooling = p .cooling })
+
+-- after a reset limits and setpoints are equal, whatever they were before
+module _ (cfg : Config) (v : Valid cfg) (a b : Attrs) where
+  defaults-alike : SameLimits (defaultsTaken cfg a .settings) (defaultsTaken cfg b .settings)
+  defaults-alike = record { minheat = refl; maxheat = refl; mincool = refl; maxcool = refl }
+
+  pub reset-limits : SameLimits (repaired cfg (defaultsTaken cfg a) .settings) (repaired cfg (defaultsTaken cfg b) .settings)
+  reset-limits = repaired-limits cfg v _ _ defaults-alike
+
+  pub reset-points : SamePoints cfg (repaired cfg (defaultsTaken cfg a) .settings) (repaired cfg (defaultsTaken cfg b) .settings)
+  reset-points = repaired-points cfg v _ _ defaults-alike (record { heating = λ e. refl; cooling = λ e. refl })
 
 -- one call on two controllers with equal limits: equal numbers, equal limits again, and equal setpoints where they were equal
 pub record Stepped (cfg : Config) (q r : Controller) (o p : Outcome) : Type 0 where
@@ -170,7 +182,7 @@ module _ (cfg : Config) (ok : accepted cfg ≡ true) (d : Readings) (q r : Contr
       record { number = refl; limits = chained (raise-limits cfg d mode a x) (raise-limits cfg d mode a y) l; points = λ p. raise-points cfg d x y l p v mode a z }
 
   sound-both : (k : Call) → Both (stepSound cfg q d k) (stepSound cfg r d k)
-  unfolding stepSound writeOccupiedHeatingSetpoint writeOccupiedCoolingSetpoint writeMinHeatSetpointLimit writeMaxHeatSetpointLimit writeMinCoolSetpointLimit writeMaxCoolSetpointLimit writeSystemMode setControlSequenceOfOperation raiseLowerSetpoint armClock seedEvents sweep timer deadline applied askSweep started claimSetpoints
+  unfolding stepSound writeOccupiedHeatingSetpoint writeOccupiedCoolingSetpoint writeMinHeatSetpointLimit writeMaxHeatSetpointLimit writeMinCoolSetpointLimit writeMaxCoolSetpointLimit writeSystemMode setControlSequenceOfOperation raiseLowerSetpoint armClock seedEvents sweep timer deadline applied askSweep started claimSetpoints factoryReset
   sound-both (WriteOccupiedHeatingSetpoint x) =
       guarded _ _ _ _ (heat-rows x)
       (λ c. record { number = refl; limits = chained (heating-limits cfg d external x q) (heating-limits cfg d external x r) l; points = λ p. heating-points cfg d q r l x x refl (p .cooling) })
@@ -210,6 +222,7 @@ module _ (cfg : Config) (ok : accepted cfg ≡ true) (d : Readings) (q r : Contr
   sound-both Sweep = guarded _ _ _ _ refl (λ c. kept-both _ _ (swept-done cfg q d ∙ sym (swept-done cfg r d)) (swept-attrs cfg d q) (swept-attrs cfg d r))
   sound-both Timer = guarded _ _ _ _ refl (λ c. kept-both _ _ refl (events-attrs cfg d q) (events-attrs cfg d r))
   sound-both Deadline = record { number = refl; limits = l; points = λ p. p }
+  sound-both FactoryReset = record { number = refl; limits = reset-limits cfg v (q .attrs) (r .attrs); points = λ p. reset-points cfg v (q .attrs) (r .attrs) }
 
   pub step-both : (k : Call) → Both (step cfg q d k) (step cfg r d k)
   unfolding step

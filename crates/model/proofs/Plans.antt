@@ -33,7 +33,7 @@ use Rattle.records.specs.declared.Stored.{Stored}
 use Rattle.records.specs.declared.Stored.the-variants.{Nothing, MinHeat, MaxHeat, MinCool, MaxCool, Mode}
 use Rattle.records.specs.declared.Planned.{Planned}
 use Rattle.records.specs.declared.Planned.the-variants.{NoWrite, Write}
-use Rattle.records.specs.declared.Call.the-variants.{WriteOccupiedHeatingSetpoint, WriteOccupiedCoolingSetpoint, WriteMinHeatSetpointLimit, WriteMaxHeatSetpointLimit, WriteMinCoolSetpointLimit, WriteMaxCoolSetpointLimit, WriteSystemMode, SetControlSequenceOfOperation, RaiseLowerSetpoint, ArmClock, OutOfBand, SeedEvents, Sweep, Timer, Deadline}
+use Rattle.records.specs.declared.Call.the-variants.{WriteOccupiedHeatingSetpoint, WriteOccupiedCoolingSetpoint, WriteMinHeatSetpointLimit, WriteMaxHeatSetpointLimit, WriteMinCoolSetpointLimit, WriteMaxCoolSetpointLimit, WriteSystemMode, SetControlSequenceOfOperation, RaiseLowerSetpoint, ArmClock, OutOfBand, SeedEvents, Sweep, Timer, Deadline, FactoryReset}
 use Rattle.model.proofs.Logic.{both, clash, by-cond, both-cond}
 use Rattle.model.proofs.RepairedSettings.{or-false, stored-same}
 
@@ -235,3 +235,4 @@ planned-carried cfg r d SeedEvents p e = absurd (no-write e)
 planned-carried cfg r d Sweep p e = absurd (no-write e)
 planned-carried cfg r d Timer p e = absurd (no-write e)
 planned-carried cfg r d Deadline p e = absurd (no-write e)
+planned-carried cfg r d FactoryReset p e = absurd (no-write e)

@@ -15,6 +15,7 @@ use Rattle.model.specs.RaiseLower.{namesAbsentSide, raiseSides, raiseLow
 use Rattle.model.specs.Messages.{outOfBandMessage, heatingMessage, coolingMessage, modeMessage, limitsMessage}
 use Rattle.model.specs.Sweep.{noticeTable, tableNotices, sweepEvents, swept, notify, sweep, timer, seedEvents, deadline}
 use Rattle.model.specs.Validation.{validated, accepted}
+use Rattle.model.specs.FactoryReset.{factoryReset}
 use Rattle.model.specs.Step.{opened, step, stepSound}
 use Rattle.model.specs.Laws.{Refused, DoneOrRefused, OpenedOrRefused, UnsoundRefused}
 use Rattle.model.specs.Sound.{sound}
@@ -24,7 +25,7 @@ use Rattle.records.specs.declared.Readings.{Readings}
 use Rattle.records.specs.declared.OutOfBandMessage.{OutOfBandMessage}
 use Rattle.records.specs.declared.OutOfBandMessage.the-variants.{LocalTemperature, RunningState, Update, OccupiedHeatingSetpoint, OccupiedCoolingSetpoint, SystemMode, SetpointLimits}
 use Rattle.records.specs.declared.Call.{Call}
-use Rattle.records.specs.declared.Call.the-variants.{WriteOccupiedHeatingSetpoint, WriteOccupiedCoolingSetpoint, WriteMinHeatSetpointLimit, WriteMaxHeatSetpointLimit, WriteMinCoolSetpointLimit, WriteMaxCoolSetpointLimit, WriteSystemMode, SetControlSequenceOfOperation, RaiseLowerSetpoint, ArmClock, OutOfBand, SeedEvents, Sweep, Timer, Deadline}
+use Rattle.records.specs.declared.Call.the-variants.{WriteOccupiedHeatingSetpoint, WriteOccupiedCoolingSetpoint, WriteMinHeatSetpointLimit, WriteMaxHeatSetpointLimit, WriteMinCoolSetpointLimit, WriteMaxCoolSetpointLimit, WriteSystemMode, SetControlSequenceOfOperation, RaiseLowerSetpoint, ArmClock, OutOfBand, SeedEvents, Sweep, Timer, Deadline, FactoryReset}
 use Rattle.model.proofs.Logic.{by-cond, by-refusal}
 
 module _ (cfg : Config) (r : Controller) (d : Readings) where
@@ -62,7 +63,7 @@ module _ (cfg : Config) (r : Controller) (d : Readings) where
 
 -- on a record that passes row 28
 sound-done : (cfg : Config) (r : Controller) (d : Readings) (k : Call) → Either cfg r d (stepSound cfg r d k)
-unfolding stepSound writeOccupiedHeatingSetpoint writeOccupiedCoolingSetpoint writeMinHeatSetpointLimit writeMaxHeatSetpointLimit writeMinCoolSetpointLimit writeMaxCoolSetpointLimit writeSystemMode setControlSequenceOfOperation raiseLowerSetpoint armClock seedEvents sweep timer deadline applied
+unfolding stepSound writeOccupiedHeatingSetpoint writeOccupiedCoolingSetpoint writeMinHeatSetpointLimit writeMaxHeatSetpointLimit writeMinCoolSetpointLimit writeMaxCoolSetpointLimit writeSystemMode setControlSequenceOfOperation raiseLowerSetpoint armClock seedEvents sweep timer deadline applied factoryReset
 sound-done cfg r d (WriteOccupiedHeatingSetpoint v) = guarded cfg r d _ _ refl (inl refl)
 sound-done cfg r d (WriteOccupiedCoolingSetpoint v) = guarded cfg r d _ _ refl (inl refl)
 sound-done cfg r d (WriteMinHeatSetpointLimit v) = guarded cfg r d _ _ refl (inl refl)
@@ -79,6 +80,7 @@ sound-done cfg r d SeedEvents = inl refl
 sound-done cfg r d Sweep = guarded cfg r d _ _ refl (inl (swept-done cfg r d))
 sound-done cfg r d Timer = guarded cfg r d _ _ refl (inl refl)
 sound-done cfg r d Deadline = inl refl
+sound-done cfg r d FactoryReset = inl refl
 
 pub done-or-refused : DoneOrRefused
 unfolding step

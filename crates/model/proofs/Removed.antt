@@ -27,6 +27,7 @@ use Rattle.model.specs.Writes.{tooNearCooling, tooNearHeating, heatingRo
 use Rattle.model.specs.RaiseBoth.{heatingTarget, coolingTarget}
 use Rattle.model.specs.RaiseLower.{raiseRows}
 use Rattle.model.specs.Messages.{heatingMessage, coolingMessage, limitsMessage}
+use Rattle.model.specs.FactoryReset.{factoryReset}
 use Rattle.model.specs.Step.{step, stepSound}
 use Rattle.model.specs.Plant.{noReadings}
 use Rattle.model.specs.Removed.{raiseRemoved, removedWhenDone, removed, RefusedRemovesNothing, CutsNothing, RepairPushCutsNothing}
@@ -44,7 +45,7 @@ use Rattle.records.specs.declared.Sides.the-variants.{Heating, Cooling}
 use Rattle.records.specs.declared.Planned.the-variants.{NoWrite, Write}
 use Rattle.records.specs.declared.OutOfBandMessage.the-variants.{LocalTemperature, RunningState, Update, OccupiedHeatingSetpoint, OccupiedCoolingSetpoint, SystemMode, SetpointLimits}
 use Rattle.records.specs.declared.Call.{Call}
-use Rattle.records.specs.declared.Call.the-variants.{WriteOccupiedHeatingSetpoint, WriteOccupiedCoolingSetpoint, WriteMinHeatSetpointLimit, WriteMaxHeatSetpointLimit, WriteMinCoolSetpointLimit, WriteMaxCoolSetpointLimit, WriteSystemMode, SetControlSequenceOfOperation, RaiseLowerSetpoint, ArmClock, OutOfBand, SeedEvents, Sweep, Timer, Deadline}
+use Rattle.records.specs.declared.Call.the-variants.{WriteOccupiedHeatingSetpoint, WriteOccupiedCoolingSetpoint, WriteMinHeatSetpointLimit, WriteMaxHeatSetpointLimit, WriteMinCoolSetpointLimit, WriteMaxCoolSetpointLimit, WriteSystemMode, SetControlSequenceOfOperation, RaiseLowerSetpoint, ArmClock, OutOfBand, SeedEvents, Sweep, Timer, Deadline, FactoryReset}
 use Rattle.model.proofs.Logic.{both, clash, by-cond, both-cond}
 use Rattle.model.proofs.Valid.{Valid, valid}
 use Rattle.model.proofs.Chain.{InForce, LimitTests, Placed, in-force, heating-between, cooling-between, heat-clamped, cool-clamped}
@@ -131,6 +132,7 @@ done-removed cfg a SeedEvents p e n = absurd (no-write e)
 done-removed cfg a Sweep p e n = absurd (no-write e)
 done-removed cfg a Timer p e n = absurd (no-write e)
 done-removed cfg a Deadline p e n = absurd (no-write e)
+done-removed cfg a FactoryReset p e n = absurd (no-write e)
 
 pub planned-removed : PlannedRemoved
 unfolding removed planRemoved
@@ -139,7 +141,7 @@ planned-removed cfg r d k p h e =
     ∙ both-cond (λ (x y : Removed). x ≡ y) (eqb (p .number) 0) _ _ _ _ (λ n. sym (done-removed cfg (r .attrs) k p e n)) (λ n. refl)
 
 pub unplanned-removed : UnplannedRemoved
-unfolding removed removedWhenDone planned stepSound heatingMessage coolingMessage limitsMessage
+unfolding removed removedWhenDone planned stepSound heatingMessage coolingMessage limitsMessage factoryReset
 unplanned-removed cfg r d (WriteOccupiedHeatingSetpoint v) h e = absurd (no-write (sym e))
 unplanned-removed cfg r d (WriteOccupiedCoolingSetpoint v) h e = absurd (no-write (sym e))
 unplanned-removed cfg r d (WriteMinHeatSetpointLimit v) h e = absurd (no-write (sym e))
@@ -161,6 +163,7 @@ unplanned-removed cfg r d SeedEvents h e = either (eqb (step cfg r d SeedEvents 
 unplanned-removed cfg r d Sweep h e = either (eqb (step cfg r d Sweep .number) 0)
 unplanned-removed cfg r d Timer h e = either (eqb (step cfg r d Timer .number) 0)
 unplanned-removed cfg r d Deadline h e = either (eqb (step cfg r d Deadline .number) 0)
+unplanned-removed cfg r d FactoryReset h e = simp (sound-step cfg r d FactoryReset h)
 
 abbrev wide : ℤ → Wide
 wide z = record { 0 = z }
@@ -282,6 +285,7 @@ module _ (cfg : Config) (v : Valid cfg) (r : Controller) (g : Good cfg r) where
   plan-pushes Sweep p e = absurd (no-write e)
   plan-pushes Timer p e = absurd (no-write e)
   plan-pushes Deadline p e = absurd (no-write e)
+  plan-pushes FactoryReset p e = absurd (no-write e)
 
 pub gap-push-cuts-nothing : GapPushCutsNothing
 gap-push-cuts-nothing cfg r k p h e = plan-pushes cfg (valid cfg (sound-accepted cfg r h)) r (good cfg r h) k p e

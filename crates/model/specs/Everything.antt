@@ -5,6 +5,7 @@ use Rattle.records.specs.Records.{sameSettings}
 use Rattle.model.specs.Answers.{emit, emitAll, onlyIf, packed, packedEvents, push, pushAll}
 use Rattle.model.specs.Attribution.{armedClock, claimSetpoints, recorded, servedSetpoints}
 use Rattle.model.specs.Lists.{numbers, run}
+use Rattle.model.specs.FactoryReset.{factoryReset}
 use Rattle.model.specs.Limits.{clampCoolSetpoint, clampHeatSetpoint, coolRemoved, heatRemoved, inCoolLimits, inHeatLimits, maxCoolSetpoint, maxHeatSetpoint, minCoolSetpoint, minHeatSetpoint}
 use Rattle.model.specs.Messages.{coolingMessage, heatingMessage, limitsMessage, limitsTaken, modeMessage}
 use Rattle.model.specs.Modes.{isSupportedSystemMode, relayMask, runningMode, runningState, sequenceCools, sequenceHeats}
@@ -25,5 +26,5 @@ use Rattle.model.specs.RaiseBoth.{coolingTarget, heatingTarget, raiseBot
 use Rattle.model.specs.RaiseLower.{namesAbsentSide, raiseCooling, raiseHeating, raiseLowerSetpoint, raiseSides}
 
 unfoldable pub everything : Unit {0}
-unfolding sameSettings coolRemoved heatRemoved coolingRaiseRemoved coolingRemoved heatingRaiseRemoved heatingRemoved openingRemoved raiseRemoved removed removedWhenDone repairRemoved amountRemoved askedLessGiven clampZ maxZ minZ above apart below clamped equal greater inHundredths less lesser minus plus raised saturatedDifference widened within emit emitAll onlyIf packed packedEvents push pushAll armedClock claimSetpoints recorded servedSetpoints numbers run clampCoolSetpoint clampHeatSetpoint inCoolLimits inHeatLimits maxCoolSetpoint maxHeatSetpoint minCoolSetpoint minHeatSetpoint coolingMessage heatingMessage limitsMessage limitsTaken modeMessage isSupportedSystemMode relayMask runningMode runningState sequenceCools sequenceHeats askSweep firstFailing unless clampCooling clampHeating clampMaxCool clampMaxHeat clampMinCool clampMinHeat pullMaxHeat pullMinHeat pushCooling pushHeating repairLimits repairMode repairSetpoints repaired repairedLimits repairedSettings emitsAny hasCoolLimits hasHeatLimits listed someCoolLimit someHeatLimit supports sound soundCoolLimits soundCooling soundGap soundHeatLimits soundHeating soundSettings opened step stepSound attributeLocalSetpointChange committed deadline deferredDeadline eventsOf rowNotices sameSnapshot seedEvents snapshotOf started sweep sweepEvents swept tableNotices takeEvents coolingEmitted heatingEmitted modeEmitted relaysEmitted runningModeEmitted temperatureEmitted timer eventDue reportedTemperature deadBand accepted attributeRows eventRows featureRows limitRows numberRows validated applied armClock coolingWithGap heatingWithGap namesAbsentSide pullCooling pullHeating coolingTarget heatingTarget raiseBoth raiseCooling raiseHeating raiseLowerSetpoint raiseSides recordedIf relayNotices setControlSequenceOfOperation sourceNotices storeCoolingSetpoint storeHeatingSetpoint tooNearCooling tooNearHeating writeMaxCoolSetpointLimit writeMaxHeatSetpointLimit writeMinCoolSetpointLimit writeMinHeatSetpointLimit writeOccupiedCoolingSetpoint writeOccupiedHeatingSetpoint writeSystemMode
+unfolding sameSettings coolRemoved heatRemoved coolingRaiseRemoved coolingRemoved heatingRaiseRemoved heatingRemoved openingRemoved raiseRemoved removed removedWhenDone repairRemoved amountRemoved askedLessGiven clampZ maxZ minZ above apart below clamped equal greater inHundredths less lesser minus plus raised saturatedDifference widened within emit emitAll onlyIf packed packedEvents push pushAll armedClock claimSetpoints recorded servedSetpoints factoryReset numbers run clampCoolSetpoint clampHeatSetpoint inCoolLimits inHeatLimits maxCoolSetpoint maxHeatSetpoint minCoolSetpoint minHeatSetpoint coolingMessage heatingMessage limitsMessage limitsTaken modeMessage isSupportedSystemMode relayMask runningMode runningState sequenceCools sequenceHeats askSweep firstFailing unless clampCooling clampHeating clampMaxCool clampMaxHeat clampMinCool clampMinHeat pullMaxHeat pullMinHeat pushCooling pushHeating repairLimits repairMode repairSetpoints repaired repairedLimits repairedSettings emitsAny hasCoolLimits hasHeatLimits listed someCoolLimit someHeatLimit supports sound soundCoolLimits soundCooling soundGap soundHeatLimits soundHeating soundSettings opened step stepSound attributeLocalSetpointChange committed deadline deferredDeadline eventsOf rowNotices sameSnapshot seedEvents snapshotOf started sweep sweepEvents swept tableNotices takeEvents coolingEmitted heatingEmitted modeEmitted relaysEmitted runningModeEmitted temperatureEmitted timer eventDue reportedTemperature deadBand accepted attributeRows eventRows featureRows limitRows numberRows validated applied armClock coolingWithGap heatingWithGap namesAbsentSide pullCooling pullHeating coolingTarget heatingTarget raiseBoth raiseCooling raiseHeating raiseLowerSetpoint raiseSides recordedIf relayNotices setControlSequenceOfOperation sourceNotices storeCoolingSetpoint storeHeatingSetpoint tooNearCooling tooNearHeating writeMaxCoolSetpointLimit writeMaxHeatSetpointLimit writeMinCoolSetpointLimit writeMinHeatSetpointLimit writeOccupiedCoolingSetpoint writeOccupiedHeatingSetpoint writeSystemMode
 everything = tt

@@ -1,14 +1,15 @@
--- Document 01's four traps and the cases of C-12, C-14 and C-20, computed on its plant. docs/THEOREM.md describes each.
+-- Document 01's four traps and the cases of C-11, C-12, C-14 and C-20, computed on its plant. docs/THEOREM.md describes each.
 use mathlib.Core.Path.{_≡_}
 use mathlib.Core.Bool.{true, false}
 use mathlib.Core.List.{List, [], _∷_, _++_}
 use Prim.Native.Nat.{ℕ}
 use lib.IntN.{ℤ, pos, negsuc}
 use Rattle.units.specs.Units.{hundredths}
+use Rattle.records.specs.Records.{currentSnapshot}
 use Rattle.model.specs.Answers.{Outcome}
 use Rattle.model.specs.Validation.{accepted}
 use Rattle.model.specs.Step.{opened, step}
-use Rattle.model.specs.Plant.{at, plant, plantSettings, noReadings}
+use Rattle.model.specs.Plant.{at, plant, withDefaults, plantSettings, noReadings}
 use Rattle.model.specs.Removed.{openingRemoved, removed}
 use Rattle.model.specs.Lists.{Entry, entry, run}
 use Rattle.records.specs.declared.Config.{Config}
@@ -20,11 +21,13 @@ use Rattle.records.specs.declared.Second.the-variants.{NoSecond, At}
 use Rattle.records.specs.declared.Amount.the-variants.{NoAmount, Moved}
 use Rattle.records.specs.declared.Attributed.the-variants.{Claimed}
 use Rattle.records.specs.declared.Removed.{Removed}
+use Rattle.records.specs.declared.Moment.the-variants.{Never}
+use Rattle.records.specs.declared.Shadow.the-variants.{Seeded}
 use Rattle.records.specs.declared.Event.the-variants.{SetpointChange}
-use Rattle.records.specs.declared.Order.the-variants.{NoOrder}
+use Rattle.records.specs.declared.Order.the-variants.{NoOrder, Apply}
 use Rattle.records.specs.declared.OutOfBandMessage.the-variants.{LocalTemperature, OccupiedHeatingSetpoint, OccupiedCoolingSetpoint, SetpointLimits}
 use Rattle.records.specs.declared.Call.{Call}
-use Rattle.records.specs.declared.Call.the-variants.{WriteOccupiedHeatingSetpoint, WriteOccupiedCoolingSetpoint, WriteMinHeatSetpointLimit, WriteMaxHeatSetpointLimit, WriteMinCoolSetpointLimit, WriteMaxCoolSetpointLimit, WriteSystemMode, RaiseLowerSetpoint, OutOfBand, SeedEvents, Sweep}
+use Rattle.records.specs.declared.Call.the-variants.{WriteOccupiedHeatingSetpoint, WriteOccupiedCoolingSetpoint, WriteMinHeatSetpointLimit, WriteMaxHeatSetpointLimit, WriteMinCoolSetpointLimit, WriteMaxCoolSetpointLimit, WriteSystemMode, RaiseLowerSetpoint, OutOfBand, ArmClock, SeedEvents, Sweep, FactoryReset}
 
 abbrev pub withoutReadings : Call → Entry
 withoutReadings k = entry k noReadings
@@ -148,6 +151,9 @@ FirstClampsAlone =
     × (setpoints (run plant first (withoutReadings (WriteMaxHeatSetpointLimit (at 1900)) ∷ [])) ≡ pos 1900 ∷ pos 2250 ∷ [])
     × (amounts (removed plant first noReadings (WriteMaxHeatSetpointLimit (at 1900))) ≡ pos 0 ∷ pos 0 ∷ [])
 
+abbrev pub lowest : Settings
+lowest = record { heating = hundredths (negsuc 32767); cooling = at 0; minheat = at 0; maxheat = at 0; mincool = at 0; maxcool = at 0; mode = 0 }
+
 -- The most that an opening removes, on a configuration of heating alone. Of cooling nothing, by Both or from outside, though that is clamped and stored
 abbrev pub heatingAtTop : Config
 heatingAtTop = record {
@@ -163,10 +169,8 @@ heatingAtTop = record {
   deadband = record { 0 = pos 0 };
   sequence = 2;
   delta = at 0;
+  defaults = lowest;
 }
-
-abbrev pub lowest : Settings
-lowest = record { heating = hundredths (negsuc 32767); cooling = at 0; minheat = at 0; maxheat = at 0; mincool = at 0; maxcool = at 0; mode = 0 }
 
 abbrev pub ServedSidesAlone : Type 0
 ServedSidesAlone =
@@ -179,3 +183,39 @@ ServedSidesAlone =
     × (step heatingAtTop (o .rec) noReadings m .number ≡ 0)
     × (setpoints (step heatingAtTop (o .rec) noReadings m .rec) ≡ pos 32767 ∷ pos 0 ∷ [])
     × (amounts (removed heatingAtTop (o .rec) noReadings m) ≡ pos 0 ∷ pos 0 ∷ [])
+
+-- C-11. The plant with other defaults: their setpoints lie too high and too near, their limits outside ABS, and their mode is none
+abbrev pub outsideBand : Settings
+outsideBand = record { heating = at 3000; cooling = at 3000; minheat = at 600; maxheat = at 3000; mincool = at 1500; maxcool = at 3300; mode = 2 }
+
+-- the heat relay closes at the plant order
+abbrev pub heatStarted : Readings
+heatStarted = record { relaysbefore = 0; relaysafter = 0x01; temperature = NoReading; hook = NoSecond; node = NoSecond; clock = 0 }
+
+-- A record with a dirty mark, other settings, a pending bit, a snapshot, a claim and an armed second: the defaults are repaired as an opening's settings are, the mark is
+-- cleared though repair set it, heating lost 100, and snapshot, claim and second stay
+abbrev pub moved : Config → Controller
+moved cfg = run cfg (opened cfg (plantSettings 2000 2250) .rec) (entry SeedEvents (nodeAt 7) ∷ entry (WriteOccupiedHeatingSetpoint (at 2400)) (nodeAt 7) ∷ entry (OutOfBand LocalTemperature) (nodeAt 7) ∷ entry ArmClock (nodeAt 7) ∷ [])
+
+abbrev pub DefaultsRepaired : Type 0
+DefaultsRepaired =
+    let cfg = withDefaults outsideBand in
+    let r = moved cfg in
+    let o = step cfg r heatStarted FactoryReset in
+    (r .attrs .dirty ≡ true)
+    × (o .number ≡ 0)
+    × (o .rec .attrs .settings ≡ record { heating = at 2900; cooling = at 3150; minheat = at 700; maxheat = at 2900; mincool = at 1600; maxcool = at 3200; mode = 0 })
+    × (o .rec .attrs .dirty ≡ false)
+    × (o .order ≡ Apply 0 (at 2900) (at 3150))
+    × (o .notices ≡ 0xFFFF ∷ [])
+    × (r .pending ≡ 0x201)
+    × (o .rec .pending ≡ 0x201)
+    × (o .rec .events ≡ record { shadow = Seeded (currentSnapshot NoReading (plantSettings 2000 2250) 0 0); last = Never })
+    × (o .rec .change ≡ record { source = 2; amount = Moved (at 400); timestamp = 0; attributed = Claimed (at 2400) (at 2650); armed = At 7 })
+    × (amounts (removed cfg r heatStarted FactoryReset) ≡ pos 100 ∷ pos 0 ∷ [])
+
+-- defaults that need no repair are the settings after it
+abbrev pub DefaultsAsDelivered : Type 0
+DefaultsAsDelivered =
+    let o = step plant (moved plant) noReadings FactoryReset in
+    (o .rec .attrs ≡ record { settings = plant .defaults; dirty = false }) × (o .order ≡ Apply 1 (at 2000) (at 2250)) × (o .notices ≡ 0xFFFF ∷ [])

@@ -17,6 +17,7 @@ pub mod RaiseLower
 pub mod Messages
 pub mod LocalChange
 pub mod Sweep
+pub mod FactoryReset
 pub mod Causes
 pub mod Step
 pub mod Removed

@@ -8,7 +8,7 @@ use Rattle.records.specs.declared.Controller.{Controller}
 use Rattle.records.specs.declared.Readings.{Readings}
 use Rattle.records.specs.declared.OutOfBandMessage.the-variants.{LocalTemperature, RunningState, Update, OccupiedHeatingSetpoint, OccupiedCoolingSetpoint, SystemMode, SetpointLimits}
 use Rattle.records.specs.declared.Call.{Call}
-use Rattle.records.specs.declared.Call.the-variants.{WriteOccupiedHeatingSetpoint, WriteOccupiedCoolingSetpoint, WriteMinHeatSetpointLimit, WriteMaxHeatSetpointLimit, WriteMinCoolSetpointLimit, WriteMaxCoolSetpointLimit, WriteSystemMode, SetControlSequenceOfOperation, RaiseLowerSetpoint, ArmClock, OutOfBand, SeedEvents, Sweep, Timer, Deadline}
+use Rattle.records.specs.declared.Call.the-variants.{WriteOccupiedHeatingSetpoint, WriteOccupiedCoolingSetpoint, WriteMinHeatSetpointLimit, WriteMaxHeatSetpointLimit, WriteMinCoolSetpointLimit, WriteMaxCoolSetpointLimit, WriteSystemMode, SetControlSequenceOfOperation, RaiseLowerSetpoint, ArmClock, OutOfBand, SeedEvents, Sweep, Timer, Deadline, FactoryReset}
 
 -- an entry of a list: any call, with the readings handed in
 pub record Entry : Type 0 where
@@ -33,7 +33,7 @@ unfoldable pub numbers : Config → Controller → List Entry → List ℕ
 numbers cfg r [] = []
 numbers cfg r (e ∷ l) = number cfg r e ∷ numbers cfg (after cfg r e) l
 
--- Whether a short gap is allowed after an accepted call, b being whether one was before: from an out-of-band setpoint to the next setpoint write, raise/lower or limits message
+-- Whether a short gap is allowed after an accepted call, b being whether one was before: from an out-of-band setpoint to the next setpoint write, raise/lower, limits message or reset
 abbrev pub shortGapAfter : Bool → Call → Bool
 shortGapAfter b (WriteOccupiedHeatingSetpoint v) = false
 shortGapAfter b (WriteOccupiedCoolingSetpoint v) = false
@@ -56,3 +56,4 @@ shortGapAfter b SeedEvents = b
 shortGapAfter b Sweep = b
 shortGapAfter b Timer = b
 shortGapAfter b Deadline = b
+shortGapAfter b FactoryReset = false

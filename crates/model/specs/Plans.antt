@@ -29,7 +29,7 @@ use Rattle.records.specs.declared.Moment.the-variants.{Never}
 use Rattle.records.specs.declared.Controller.{Controller}
 use Rattle.records.specs.declared.Readings.{Readings}
 use Rattle.records.specs.declared.Call.{Call}
-use Rattle.records.specs.declared.Call.the-variants.{WriteOccupiedHeatingSetpoint, WriteOccupiedCoolingSetpoint, WriteMinHeatSetpointLimit, WriteMaxHeatSetpointLimit, WriteMinCoolSetpointLimit, WriteMaxCoolSetpointLimit, WriteSystemMode, SetControlSequenceOfOperation, RaiseLowerSetpoint, ArmClock, OutOfBand, SeedEvents, Sweep, Timer, Deadline}
+use Rattle.records.specs.declared.Call.the-variants.{WriteOccupiedHeatingSetpoint, WriteOccupiedCoolingSetpoint, WriteMinHeatSetpointLimit, WriteMaxHeatSetpointLimit, WriteMinCoolSetpointLimit, WriteMaxCoolSetpointLimit, WriteSystemMode, SetControlSequenceOfOperation, RaiseLowerSetpoint, ArmClock, OutOfBand, SeedEvents, Sweep, Timer, Deadline, FactoryReset}
 use Rattle.records.specs.declared.Stored.{Stored}
 use Rattle.records.specs.declared.Stored.the-variants.{Nothing, MinHeat, MaxHeat, MinCool, MaxCool, Mode}
 use Rattle.records.specs.declared.Sides.{Sides}
@@ -125,6 +125,7 @@ planned cfg s SeedEvents = NoWrite
 planned cfg s Sweep = NoWrite
 planned cfg s Timer = NoWrite
 planned cfg s Deadline = NoWrite
+planned cfg s FactoryReset = NoWrite
 
 -- the settings with the limit or the mode in them
 abbrev pub withStored : Settings → Stored → Settings

@@ -16,6 +16,7 @@ use Rattle.model.specs.Validation.{accepted}
 use Rattle.model.specs.Repair.{clampHeating, clampCooling, repairLimits}
 use Rattle.model.specs.Writes.{tooNearCooling, tooNearHeating}
 use Rattle.model.specs.Messages.{limitsTaken}
+use Rattle.model.specs.FactoryReset.{defaultsTaken}
 use Rattle.model.specs.Step.{step}
 use Rattle.records.specs.declared.Config.{Config}
 use Rattle.records.specs.declared.Settings.{Settings}
@@ -26,7 +27,7 @@ use Rattle.records.specs.declared.Removed.{Removed}
 use Rattle.records.specs.declared.OutOfBandMessage.{OutOfBandMessage}
 use Rattle.records.specs.declared.OutOfBandMessage.the-variants.{LocalTemperature, RunningState, Update, OccupiedHeatingSetpoint, OccupiedCoolingSetpoint, SystemMode, SetpointLimits}
 use Rattle.records.specs.declared.Call.{Call}
-use Rattle.records.specs.declared.Call.the-variants.{WriteOccupiedHeatingSetpoint, WriteOccupiedCoolingSetpoint, WriteMinHeatSetpointLimit, WriteMaxHeatSetpointLimit, WriteMinCoolSetpointLimit, WriteMaxCoolSetpointLimit, WriteSystemMode, SetControlSequenceOfOperation, RaiseLowerSetpoint, ArmClock, OutOfBand, SeedEvents, Sweep, Timer, Deadline}
+use Rattle.records.specs.declared.Call.the-variants.{WriteOccupiedHeatingSetpoint, WriteOccupiedCoolingSetpoint, WriteMinHeatSetpointLimit, WriteMaxHeatSetpointLimit, WriteMinCoolSetpointLimit, WriteMaxCoolSetpointLimit, WriteSystemMode, SetControlSequenceOfOperation, RaiseLowerSetpoint, ArmClock, OutOfBand, SeedEvents, Sweep, Timer, Deadline, FactoryReset}
 
 abbrev pub heatingAlone : Wide → Removed
 heatingAlone w = record { heating = w; cooling = zeroWide }
@@ -75,7 +76,7 @@ bothRaiseRemoved cfg s amount = record { heating = cond (heats cfg) (heatingRais
 unfoldable pub raiseRemoved : Config → Settings → ℕ → Tenths → Removed
 raiseRemoved cfg s mode amount = cond (eqb mode 0) (heatingAlone (heatingRaiseRemoved cfg s amount)) (cond (eqb mode 1) (coolingAlone (coolingRaiseRemoved cfg s amount)) (bothRaiseRemoved cfg s amount))
 
--- every call by cases, where it is done
+-- every call by cases, where it is done. A reset has repair's (C-11)
 unfoldable pub removedWhenDone : Config → Attrs → Call → Removed
 removedWhenDone cfg a (WriteOccupiedHeatingSetpoint v) = nothingRemoved
 removedWhenDone cfg a (WriteOccupiedCoolingSetpoint v) = nothingRemoved
@@ -92,6 +93,7 @@ removedWhenDone cfg a SeedEvents = nothingRemoved
 removedWhenDone cfg a Sweep = nothingRemoved
 removedWhenDone cfg a Timer = nothingRemoved
 removedWhenDone cfg a Deadline = nothingRemoved
+removedWhenDone cfg a FactoryReset = repairRemoved cfg (defaultsTaken cfg a)
 
 -- and where it is refused, nothing
 unfoldable pub removed : Config → Controller → Readings → Call → Removed

@@ -86,6 +86,9 @@ SecondRepairChangesNothing =
 abbrev pub NoStepUndone : Type 0
 NoStepUndone = (cfg : Config) (a : Attrs) → accepted cfg ≡ true → repaired cfg a .settings ≡ a .settings → repaired cfg a ≡ a
 
+abbrev pub heatingAt : ℕ → Settings
+heatingAt h = record { heating = hundredths (pos h); cooling = zeroHundredths; minheat = zeroHundredths; maxheat = zeroHundredths; mincool = zeroHundredths; maxcool = zeroHundredths; mode = 0 }
+
 -- without the premise the final adjustment may act. The smallest input: HEAT, COOL and AUTO with the attributes that row 5 asks for and no limits, no dead band, and
 -- ABS_MAX of heating one hundredth above cooling's, so that row 20 alone refuses it; heating at that maximum is moved by one hundredth
 abbrev pub maximaTooNear : Config
@@ -102,10 +105,8 @@ maximaTooNear = record {
   deadband = record { 0 = pos 0 };
   sequence = 4;
   delta = zeroHundredths;
+  defaults = heatingAt 0;
 }
-
-abbrev pub heatingAt : ℕ → Settings
-heatingAt h = record { heating = hundredths (pos h); cooling = zeroHundredths; minheat = zeroHundredths; maxheat = zeroHundredths; mincool = zeroHundredths; maxcool = zeroHundredths; mode = 0 }
 
 abbrev pub AdjustmentActs : Type 0
 AdjustmentActs =

@@ -36,6 +36,7 @@ pub fn plant() -> Config
         deadband: Tenths(25),
         sequence: control_sequence::COOLING_AND_HEATING,
         delta: Hundredths(50),
+        defaults: settings(),
     }
 }
 

@@ -37,3 +37,6 @@ pub const SETPOINT_CHANGE_SOURCE: u16 = 0x30;
 pub const SETPOINT_CHANGE_AMOUNT: u16 = 0x31;
 
 pub const SETPOINT_CHANGE_SOURCE_TIMESTAMP: u16 = 0x32;
+
+// C-11: one notice for all attributes.
+pub const WHOLE_CLUSTER: u16 = 0xFFFF;

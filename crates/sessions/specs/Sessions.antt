@@ -2,7 +2,7 @@
 use Prim.Native.Nat.{ℕ, _+_, _≤_}
 use mathlib.Core.Path.{_≡_}
 use lib.IntN.{pos}
-use Rattle.records.specs.Records.{zeroHundredths}
+use Rattle.records.specs.Records.{zeroHundredths, zeroSettings}
 use Rattle.model.specs.Answers.{answerWith, answer, quiet}
 use Rattle.model.specs.Removed.{openingRemoved, removed}
 use Rattle.model.specs.Step.{opened, step}
@@ -67,4 +67,5 @@ noConfig = record {
   deadband = record { 0 = pos 0 };
   sequence = 0;
   delta = zeroHundredths;
+  defaults = zeroSettings;
 }

@@ -11,6 +11,7 @@ use crate::places;
 use crate::serve;
 use records::Config;
 use records::Controller;
+use records::Settings;
 use text::Page;
 use units::Hundredths;
 use units::Tenths;
@@ -32,6 +33,7 @@ fn no_config() -> Config
         deadband: Tenths(0),
         sequence: 0,
         delta: Hundredths(0),
+        defaults: Settings::ZERO,
     }
 }
 

@@ -77,5 +77,6 @@ pub fn plan(cfg: Config, s: Settings, call: Call) -> Planned
         Call::Sweep => Planned::NoWrite,
         Call::Timer => Planned::NoWrite,
         Call::Deadline => Planned::NoWrite,
+        Call::FactoryReset => Planned::NoWrite,
     }
 }

@@ -1,6 +1,6 @@
 use Rattle.model.specs.Answers.{packed, pushAll, packedEvents, emitAll}
-use Rattle.opening.proofs.repair_record.Statement.{statement}
-use Rattle.opening.proofs.repair_record.Tie as tie
+use Rattle.repair_records.proofs.repair_record.Statement.{statement}
+use Rattle.repair_records.proofs.repair_record.Tie as tie
 
 pub repair-record-spec : {M : Type 1} → statement M
 unfolding packed pushAll packedEvents emitAll
