@@ -1,2 +1,1 @@
-pub mod Noticed
 pub mod Performed
