@@ -16,7 +16,11 @@ pub fn factory_reset(cfg: Config, r: Controller) -> Answer
     let defaults = cfg.defaults;
     let a = records::update_attrs(r.attrs, defaults);
     let mut q = repair_records::repair_record(cfg, r, a);
-    q.rec.attrs.dirty = false;
+    let mut p = q.rec;
+    let mut b = p.attrs;
+    b.dirty = false;
+    p.attrs = b;
+    q.rec = p;
     let n = answers::push(Notices::none(), attribute_id::WHOLE_CLUSTER);
     q.notices = n;
     q

@@ -13,5 +13,5 @@ factory-reset-spec =
     (λ c κs. tt)
     (λ c κs. tt)
     (λ c.
-    let p = c .before .before .before in
+    let p = c .before .before .before .before in
     simp (c .push .ensures, c .before .none .ensures, p .repair-record .ensures, p .before .update-attrs .ensures)))
