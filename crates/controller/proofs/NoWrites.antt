@@ -1,5 +1,5 @@
--- Of the calls that share the last arm of `serve` the control sequence alone is no write.
-use mathlib.Core.Path.{_≡_, refl, sym}
+-- Of the calls that share the last arm of `serve` the control sequence alone is neither a write nor a reset.
+use mathlib.Core.Path.{_≡_, refl, sym, subst}
 use mathlib.Core.List.{List, [], _∷_}
 use Prim.Native.Nat.{ℕ}
 use types.Run.{OneOf, miss}
@@ -19,25 +19,32 @@ use Rattle.records.specs.declared.Call.the-variants.{WriteOccupiedHeatingSetpoi
 use denote.Enum.Declared.{tagOf}
 use Rattle.records.proofs.Call as declared
 
--- the variants before ArmClock
-abbrev first-nine : List ℕ
-first-nine = 0 ∷ 1 ∷ 2 ∷ 3 ∷ 4 ∷ 5 ∷ 6 ∷ 7 ∷ 8 ∷ []
+-- the variants before ArmClock, and the last
+abbrev no-arm : List ℕ
+no-arm = 0 ∷ 1 ∷ 2 ∷ 3 ∷ 4 ∷ 5 ∷ 6 ∷ 7 ∷ 8 ∷ 15 ∷ []
 
-pub sequence-alone : (cfg : Config) (r : Controller) (d : Readings) (k : Call) → OneOf first-nine (tagOf declared.the-type k) → planned cfg (r .attrs .settings) k ≡ NoWrite → (stepSound cfg r d k ≡ quiet 0 r) × (removedWhenDone cfg (r .attrs) k ≡ nothingRemoved)
+-- all but the last
+abbrev no-reset : List ℕ
+no-reset = 0 ∷ 1 ∷ 2 ∷ 3 ∷ 4 ∷ 5 ∷ 6 ∷ 7 ∷ 8 ∷ 9 ∷ 10 ∷ 11 ∷ 12 ∷ 13 ∷ 14 ∷ []
+
+pub is-no-reset : (k : Call) → OneOf no-reset (tagOf declared.the-type k) → k ≡ FactoryReset → ⊥
+is-no-reset k h e = miss no-reset 15 tt (subst (λ (x : Call). OneOf no-reset (tagOf declared.the-type x)) e h)
+
+pub sequence-alone : (cfg : Config) (r : Controller) (d : Readings) (k : Call) → OneOf no-arm (tagOf declared.the-type k) → planned cfg (r .attrs .settings) k ≡ NoWrite → (k ≡ FactoryReset → ⊥) → (stepSound cfg r d k ≡ quiet 0 r) × (removedWhenDone cfg (r .attrs) k ≡ nothingRemoved)
 unfolding stepSound removedWhenDone planned setControlSequenceOfOperation
-sequence-alone cfg r d (WriteOccupiedHeatingSetpoint v) h e = absurd (no-write (sym e))
-sequence-alone cfg r d (WriteOccupiedCoolingSetpoint v) h e = absurd (no-write (sym e))
-sequence-alone cfg r d (WriteMinHeatSetpointLimit v) h e = absurd (no-write (sym e))
-sequence-alone cfg r d (WriteMaxHeatSetpointLimit v) h e = absurd (no-write (sym e))
-sequence-alone cfg r d (WriteMinCoolSetpointLimit v) h e = absurd (no-write (sym e))
-sequence-alone cfg r d (WriteMaxCoolSetpointLimit v) h e = absurd (no-write (sym e))
-sequence-alone cfg r d (WriteSystemMode v) h e = absurd (no-write (sym e))
-sequence-alone cfg r d (SetControlSequenceOfOperation v) h e = (refl, refl)
-sequence-alone cfg r d (RaiseLowerSetpoint mode amount) h e = absurd (no-write (sym e))
-sequence-alone cfg r d ArmClock h e = absurd (miss first-nine 9 tt h)
-sequence-alone cfg r d (OutOfBand m) h e = absurd (miss first-nine 10 tt h)
-sequence-alone cfg r d SeedEvents h e = absurd (miss first-nine 11 tt h)
-sequence-alone cfg r d Sweep h e = absurd (miss first-nine 12 tt h)
-sequence-alone cfg r d Timer h e = absurd (miss first-nine 13 tt h)
-sequence-alone cfg r d Deadline h e = absurd (miss first-nine 14 tt h)
-sequence-alone cfg r d FactoryReset h e = absurd (miss first-nine 15 tt h)
+sequence-alone cfg r d (WriteOccupiedHeatingSetpoint v) h e n = absurd (no-write (sym e))
+sequence-alone cfg r d (WriteOccupiedCoolingSetpoint v) h e n = absurd (no-write (sym e))
+sequence-alone cfg r d (WriteMinHeatSetpointLimit v) h e n = absurd (no-write (sym e))
+sequence-alone cfg r d (WriteMaxHeatSetpointLimit v) h e n = absurd (no-write (sym e))
+sequence-alone cfg r d (WriteMinCoolSetpointLimit v) h e n = absurd (no-write (sym e))
+sequence-alone cfg r d (WriteMaxCoolSetpointLimit v) h e n = absurd (no-write (sym e))
+sequence-alone cfg r d (WriteSystemMode v) h e n = absurd (no-write (sym e))
+sequence-alone cfg r d (SetControlSequenceOfOperation v) h e n = (refl, refl)
+sequence-alone cfg r d (RaiseLowerSetpoint mode amount) h e n = absurd (no-write (sym e))
+sequence-alone cfg r d ArmClock h e n = absurd (miss no-arm 9 tt h)
+sequence-alone cfg r d (OutOfBand m) h e n = absurd (miss no-arm 10 tt h)
+sequence-alone cfg r d SeedEvents h e n = absurd (miss no-arm 11 tt h)
+sequence-alone cfg r d Sweep h e n = absurd (miss no-arm 12 tt h)
+sequence-alone cfg r d Timer h e n = absurd (miss no-arm 13 tt h)
+sequence-alone cfg r d Deadline h e n = absurd (miss no-arm 14 tt h)
+sequence-alone cfg r d FactoryReset h e n = absurd (n refl)

@@ -6,6 +6,7 @@ ghost use Rattle.model.specs.Plans.{planned};
 ghost use Rattle.model.specs.Removed.{removed, removedWhenDone};
 ghost use Rattle.model.specs.Sound.{sound as soundOf};
 ghost use Rattle.model.specs.Step.{step as stepOf, stepSound};
+ghost use Rattle.records.specs.declared.Call.the-variants.{FactoryReset};
 ghost use Rattle.records.specs.declared.Planned.the-variants.{NoWrite};
 use records::Answer;
 use records::Call;
@@ -15,9 +16,9 @@ use records::Planned;
 use records::Readings;
 use records::answer_number;
 
-// The calls that are no writes. The last arm serves the control sequence, which accepts every value and changes nothing.
+// The calls that are neither a reset nor a write. The last arm serves the control sequence, which accepts every value and changes nothing.
 fn serve(cfg: Config, rec: Controller, d: Readings, call: Call) -> Answer
-    requires { ⌜ (soundOf cfg rec ≡ true) × (planned cfg (rec .attrs .settings) call ≡ NoWrite) ⌝ }
+    requires { ⌜ (soundOf cfg rec ≡ true) × (planned cfg (rec .attrs .settings) call ≡ NoWrite) × (call ≡ FactoryReset → ⊥) ⌝ }
     ensures { λ q. ⌜ q ≡ answerWith (stepSound cfg rec d call) (removedWhenDone cfg (rec .attrs) call) ⌝ }
 {
     match call {
@@ -30,7 +31,6 @@ fn serve(cfg: Config, rec: Controller, d: Readings, call: Call) -> Answer
         Call::Sweep => sweep::sweep(cfg, rec, d),
         Call::Timer => sweep::timer(cfg, rec, d),
         Call::Deadline => sweep_deadline::deferred_local_temperature_deadline(cfg, rec, d),
-        Call::FactoryReset => factory_reset::factory_reset(cfg, rec),
         _ => answers::quiet_answer(answer_number::DONE, rec),
     }
 }
@@ -40,9 +40,12 @@ pub fn step_sound(cfg: Config, rec: Controller, d: Readings, call: Call) -> Answ
     requires { ⌜ soundOf cfg rec ≡ true ⌝ }
     ensures { λ q. ⌜ (q ≡ answerWith (stepOf cfg rec d call) (removed cfg rec d call)) × (soundOf cfg (q .rec) ≡ true) ⌝ }
 {
-    match writes_plans::plan(cfg, rec.attrs.settings, call) {
-        Planned::NoWrite => serve(cfg, rec, d, call),
-        Planned::Write(p) => writes::carry_out(cfg, d, rec, p),
+    match call {
+        Call::FactoryReset => factory_reset::factory_reset(cfg, rec),
+        _ => match writes_plans::plan(cfg, rec.attrs.settings, call) {
+            Planned::NoWrite => serve(cfg, rec, d, call),
+            Planned::Write(p) => writes::carry_out(cfg, d, rec, p),
+        },
     }
 }
 

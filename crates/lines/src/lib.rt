@@ -29,7 +29,10 @@ fn line_of(f: Fields) -> Line {
     let row = f.row;
     match row {
         forms::CONFIG => return Line::Config(values::config_of(f)),
-        forms::OPEN => return Line::Open(values::settings_of(f), values::readings_of(f)),
+        forms::OPEN => return Line::Open(
+            values::settings_from(f, values::SETTINGS),
+            values::readings_of(f),
+        ),
         forms::RECORD => return Line::Record(values::record_of(f)),
         forms::ROWS => return Line::Unreadable,
         _ => return Line::Call(calls::call_of(f), values::readings_of(f)),

@@ -13,11 +13,13 @@ use records::Settings;
 use records::Shadow;
 use records::Snapshot;
 
-// A configuration's defaults stand from this place on.
+// The settings of an opening or a record stand from this place on, and the defaults of a configuration.
+pub const SETTINGS: usize = 0;
+
 const DEFAULTS: usize = 12;
 
 // The seven settings that stand from place `i` on, all 0 where no numbers stand there.
-fn settings_from(f: Fields, i: usize) -> Settings
+pub(crate) fn settings_from(f: Fields, i: usize) -> Settings
     requires { ⌜ i < 16 ⌝ }
 {
     Settings {
@@ -47,10 +49,6 @@ pub(crate) fn config_of(f: Fields) -> Config {
         delta: f.hundredths(11),
         defaults: settings_from(f, DEFAULTS),
     }
-}
-
-pub(crate) fn settings_of(f: Fields) -> Settings {
-    settings_from(f, 0)
 }
 
 fn attributed_of(f: Fields) -> Attributed {
@@ -93,7 +91,7 @@ fn shadow_of(f: Fields) -> Shadow {
 pub(crate) fn record_of(f: Fields) -> Controller {
     Controller {
         attrs: Attrs {
-            settings: settings_of(f),
+            settings: settings_from(f, SETTINGS),
             dirty: f.quad(7) == 1,
         },
         pending: f.word(8),

@@ -26,8 +26,6 @@ serve-spec =
     (λ c κs. tt)
     (λ c. c .match .keys6)
     (λ c κs. let a = c .before .before in sound-last (a .args .cfg) (a .args .rec) (a .pre .0))
-    (λ c. c .match .keys7)
-    (λ c κs. tt)
     (λ c κs. tt)
     (λ c. simp (c .quiet-answer .ensures, c .before .arm-clock .ensures, c .before .before .enum-told .given .1))
     (λ c. simp (c .out-of-band-message .ensures, c .before .known-told .given .1, c .before .before .call .given .1))
@@ -35,8 +33,7 @@ serve-spec =
     (λ c. simp (c .sweep .ensures, c .before .enum-told3 .given .1))
     (λ c. simp (c .timer .ensures, c .before .enum-told4 .given .1))
     (λ c. simp (c .deferred-local-temperature-deadline .ensures, c .before .enum-told5 .given .1))
-    (λ c. simp (c .factory-reset .ensures, c .before .enum-told6 .given .1))
     (λ c.
     let a = c .before .before in
-    let k = sequence-alone (a .args .cfg) (a .args .rec) (a .args .d) (a .args .call) (c .before .match .keys8) (a .pre .1) in
+    let k = sequence-alone (a .args .cfg) (a .args .rec) (a .args .d) (a .args .call) (c .before .match .keys7) (a .pre .1) (a .pre .2) in
     c .quiet-answer2 .ensures ∙ ap₂ answerWith (sym (k .0)) (sym (k .1))))
