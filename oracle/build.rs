@@ -4,6 +4,7 @@ use std::path::{Path, PathBuf};
 use std::{env, fs};
 
 type Row = ([i32; 4], i32, i32, i32);
+type Settings = ([i32; 6], i32);
 
 /// Rows that are always there: the plant of the papers first, then nothing configured, then the ends of the ranges.
 const FIXED: [Row; 17] = [
@@ -30,6 +31,11 @@ const FIXED: [Row; 17] = [
     ([2000, 2000, 2250, 2250], 25, 5, 0),
 ];
 
+/// Defaults of three of these rows: the papers' settings, which need no repair; nothing; and limits the wrong way round, with both
+/// setpoints outside. Those of the others are drawn.
+const FIXED_DEFAULTS: [(usize, Settings); 3] =
+    [(0, ([2000, 2250, 700, 2900, 1600, 3200], 1)), (1, ([0; 6], 0)), (4, ([3000, 1500, 2900, 700, 1600, 3300], 1))];
+
 fn main() {
     let out = PathBuf::from(env::var_os("OUT_DIR").expect("OUT_DIR"));
 
@@ -41,10 +47,15 @@ fn main() {
     let module = format!("#[allow(dead_code, refining_impl_trait)]\n#[path = {original:?}]\nmod thermostat;\n");
     fs::write(out.join("original.rs"), module).expect("OUT_DIR takes files");
 
-    let rows = table(setting("ORACLE_ROWS", 256), setting("ORACLE_SEED", 1));
+    let seed = setting("ORACLE_SEED", 1);
+    let rows = table(setting("ORACLE_ROWS", 256), seed);
     let mut table = format!("pub static TABLE: [Row; {}] = [\n", rows.len());
     for (limits, dead_band, sequence, delta) in &rows {
         table += &format!("    Row::of({limits:?}, {dead_band}, {sequence}, {delta}),\n");
+    }
+    table += &format!("];\n\nstatic DEFAULTS: [Settings; {}] = [\n", rows.len());
+    for (hundredths, mode) in defaults(&rows, seed) {
+        table += &format!("    Settings::of({hundredths:?}, {mode}),\n");
     }
     table += &format!("];\n\nstatic PLANTS: [Plant; {}] = [\n", rows.len());
     for index in 0..rows.len() {
@@ -70,6 +81,16 @@ fn table(count: u64, seed: u64) -> Vec<Row> {
         }
     }
     rows
+}
+
+/// Drawn apart from the rows, which are the same without them.
+fn defaults(rows: &[Row], seed: u64) -> Vec<Settings> {
+    let mut draw = Draw(!seed);
+    let mut all: Vec<Settings> = rows.iter().map(|row| draw.defaults(row)).collect();
+    for (index, fixed) in FIXED_DEFAULTS {
+        all[index] = fixed;
+    }
+    all
 }
 
 struct Draw(u64);
@@ -125,6 +146,54 @@ impl Draw {
             _ => (),
         }
         (limits, dead_band, sequence, delta)
+    }
+
+    /// Half of them sound, if the row is: limits within ABS and a gap apart, setpoints within them, a mode that the sequence has. The
+    /// others lie at or beside the row's limits, a gap from them or anywhere, or have one number or the mode of that kind.
+    fn defaults(&mut self, row: &Row) -> Settings {
+        let (limits, dead_band, sequence, _) = *row;
+        let [abs_min_heat, abs_max_heat, abs_min_cool, abs_max_cool] = limits;
+        let gap = 10 * dead_band.max(0);
+
+        let whole = self.below(3) == 0;
+        let min_cool = if whole { abs_min_cool } else { self.between(abs_min_cool, abs_max_cool) };
+        let max_cool = if whole { abs_max_cool } else { self.between(min_cool, abs_max_cool) };
+        let min_heat = if whole { abs_min_heat } else { self.between(abs_min_heat, abs_max_heat.min(min_cool - gap)) };
+        let max_heat = if whole { abs_max_heat } else { self.between(min_heat, abs_max_heat.min(max_cool - gap)) };
+        let heating = self.between(min_heat, max_heat);
+        let cooling = self.between(min_cool.max((heating + gap).min(max_cool)), max_cool);
+        let mut hundredths = [heating, cooling, min_heat, max_heat, min_cool, max_cool];
+        let mut mode = match sequence {
+            0 | 1 => self.pick([0, 3]),
+            2 | 3 => self.pick([0, 4]),
+            _ => self.pick([0, 3, 4]),
+        };
+        match self.below(12) {
+            0 | 1 => hundredths = hundredths.map(|_| self.beside(limits, gap)),
+            2 => hundredths[self.below(2) as usize] = self.beside(limits, gap),
+            3 => hundredths[2 + self.below(4) as usize] = self.beside(limits, gap),
+            4 => mode = self.pick([0, 1, 3, 4, 5, 6, 7, 8, 9]),
+            5 => {
+                hundredths = hundredths.map(|_| self.any());
+                mode = self.pick([0, 1, 3, 4, 5, 6, 7, 8, 9]);
+            }
+            _ => (),
+        }
+        (hundredths.map(|value| value.clamp(-32768, 32767)), mode)
+    }
+
+    /// A number from low to high, often at an end; low, where high is below it.
+    fn between(&mut self, low: i32, high: i32) -> i32 {
+        let some = low + self.below((high - low).max(0) as u64 + 1);
+        self.pick([low, high.max(low), some, some])
+    }
+
+    /// At one of the limits, one from it, or a gap from it, or anywhere.
+    fn beside(&mut self, limits: [i32; 4], gap: i32) -> i32 {
+        let limit = self.pick(limits);
+        let any = self.any();
+        let step = self.pick([0, 0, 1, -1, gap, -gap, gap + 1, -gap - 1]);
+        self.pick([limit + step, limit + step, limit + step, any])
     }
 
     fn pick_edge(&mut self) -> i32 {

@@ -4,6 +4,7 @@
     python3 oracle/compare.py [CALLS [SEED [CONSOLE [ORACLE]]]]    1,000,000 calls, seed 1; about two minutes
     python3 oracle/compare.py --repair [CALLS [SEED ..]]           openings and limits messages alone, at repair's edges
     python3 oracle/compare.py --both [CALLS [SEED ..]]             raise/lower of both sides alone, at the edges of limits and gap
+    python3 oracle/compare.py --reset [CALLS [SEED ..]]            resets alone, of the row's defaults and of others, at repair's edges
     python3 oracle/compare.py --replay CALLS OUTDIR                lines in OUTDIR/stdin, the Rust's answers in OUTDIR/stdout,
                                                                    but the port's where C-14 or C-20 sets them apart, marked,
                                                                    each with the amounts of removed.py
@@ -14,12 +15,13 @@ It draws configurations (their numbers from the oracle's table), records, readin
 not, and goes on until CALLS of them lie in document 01's domain. In turn with these come lists that are run through completely
 (SHORT LISTS below), as far as CALLS reaches. The same SEED gives the same lines.
 
-A difference is listed only where a rule of `Judge` says so: for the paper's rows 20, 24, 26, 27 and 28, and for C-14 and C-20. This
+A difference is listed only where a rule of `Judge` says so: for the paper's rows 20, 24, 26, 27 and 28, and for C-11, C-14 and C-20. This
 program works out for itself where they are due. At a row the console must give exactly that number and the record as it was; where both
 setpoints moved, cooling's amount and all else as the Rust. To Both it must answer as raise_both.py does; with AUTO the Rust may answer
-otherwise, and goes on with the console's record. Every answer of the console must end in the amounts that removed.py gives (C-12); it is
-compared with the Rust's without them. Any other difference, and a row or amount that is due and does not come, is unlisted:
-the first of these are cut down and printed, and the exit code is 1.
+otherwise, and goes on with the console's record. At a reset the Rust is asked twice: `reset`, which must just put the defaults in, and an
+opening on the defaults, whose settings and order the console must give; then too it goes on with the console's record. Every answer of the
+console must end in the amounts that removed.py gives (C-12); it is compared with the Rust's without them. Any other difference, and a row
+or amount that is due and does not come, is unlisted: the first of these are cut down and printed, and the exit code is 1.
 Python's standard library is all it needs.
 """
 
@@ -64,7 +66,8 @@ class Config:
     def __init__(self, served, numbers):
         self.served, self.numbers = list(served), list(numbers)
         self.revision, self.features, self.attributes, self.events, self.commands = served
-        *self.limits, self.dead_band, self.sequence, self.delta = numbers
+        *self.limits, self.dead_band, self.sequence, self.delta = numbers[:7]
+        self.defaults = self.numbers[7:] or [0] * 7
         self.heats, self.cools, self.auto, self.hidden, self.tells = (bool(self.features & bit) for bit in FEATURES)
         self.heat_limits = all(map(self.serves, HEAT_LIMITS))
         self.cool_limits = all(map(self.serves, COOL_LIMITS))
@@ -219,6 +222,50 @@ def goes_apart(config, words):
     return config.auto and is_both(words)
 
 
+# --- C-11
+
+SETTINGS = "h c minh maxh minc maxc mode".split()
+
+
+def opening_on_defaults(config):
+    """The line at which the Rust repairs the defaults. In place of a mode that its types lack it gets 5, which no plant supports either."""
+    *settings, mode = config.defaults
+    return " ".join(map(str, ("open", *settings, mode if mode in MODES else 5)))
+
+
+def with_fields(state, changes):
+    fields = dict(re.findall(r"(\w+)=(\S+)", state)) | changes
+    return " ".join(f"{name}={value}" for name, value in fields.items())
+
+
+def settings_in(state):
+    return dict(zip(SETTINGS, STATE.fullmatch(state).groups()))
+
+
+def reset_due(before, opened):
+    """The answer to a reset on a record that passes row 28, from the Rust's to an opening on the defaults: its settings, its order and its
+    pending bit beside those that there are; the mark cleared, one notice, and all else as it was."""
+    repaired = ANSWER.fullmatch(opened)
+    pending = {"pend": int(STATE.fullmatch(before)[9]) | int(STATE.fullmatch(repaired[2])[9])}
+    state = with_fields(before, settings_in(repaired[2]) | {"dirty": 0} | pending)
+    return f"0 {state} order={repaired[3]} notices=ffff events=-"
+
+
+def defaults_put_in(config, before):
+    """The Rust's answer to a reset."""
+    state = with_fields(before, dict(zip(SETTINGS, config.defaults)) | {"dirty": 0})
+    return f"0 {state} order=- notices=ffff events=-"
+
+
+def with_order(config, theirs):
+    """The Rust's answer to a reset, with the order that its settings give and the bit of an order."""
+    state = ANSWER.fullmatch(theirs)[2]
+    field = dict(re.findall(r"(\w+)=(\S+)", state))
+    pending = int(field["pend"]) | 0x200 * bool(config.events)
+    rest = theirs.split(" order=- ")[1]
+    return f"0 {with_fields(state, {'pend': pending})} order={field['mode']}/{field['h']}/{field['c']} {rest}"
+
+
 # --- C-12
 
 SIDES = {(True, False): "heating", (False, True): "cooling", (True, True): "both"}
@@ -241,7 +288,11 @@ def without_cut(answer):
 BOTH, CONSOLE_ALONE, UNREADABLE = range(3)  # how a line is meant
 
 BOTH_MOVED, BOTH_HAD_MOVED, BOTH_RAISED = "both moved", "both had moved", "both raised"
+RESET, RESET_REPAIRED, RESET_OPENED = RESETS = "reset", "reset, repaired", "reset, beside an opening"
 LISTED = {
+    RESET: "DIFFERENCES 11: C-11, reset, defaults that need no repair",
+    RESET_REPAIRED: "DIFFERENCES 11: C-11, reset, defaults that need repair",
+    RESET_OPENED: "DIFFERENCES 11: C-11, reset, defaults of no row: its opening alone",
     BOTH_RAISED: "DIFFERENCES 9: C-14, Both with AUTO",
     BOTH_MOVED: "DIFFERENCES 8: C-20, both setpoints moved",
     BOTH_HAD_MOVED: "DIFFERENCES 8: C-20's amount still stands",
@@ -260,15 +311,17 @@ class Counts:
         self.listed, self.removed = (collections.defaultdict(collections.Counter) for _ in range(2))
 
     def domain(self):
-        """Calls in document 01's domain: all but those answered 24, 27 or 28 and those whose values the Rust's types lack."""
-        return self.compared + sum(sum(self.listed[LISTED[row]].values()) for row in (20, 26, BOTH_MOVED, BOTH_HAD_MOVED, BOTH_RAISED))
+        """Calls in document 01's domain, and resets: all but those answered 24, 27 or 28 and those whose values the Rust's types lack."""
+        rows = 20, 26, BOTH_MOVED, BOTH_HAD_MOVED, BOTH_RAISED, *RESETS
+        return self.compared + sum(sum(self.listed[LISTED[row]].values()) for row in rows)
 
 
 class Judge:
     """Follows an input through both programs' answers. `step` gives a complaint, or nothing."""
 
-    def __init__(self, counts):
+    def __init__(self, counts, table):
         self.counts = counts
+        self.table = table
         self.config = Config([0] * 5, [0] * 7)
         self.lend(BLANK, held=True)
 
@@ -279,8 +332,10 @@ class Judge:
         self.rusts = amount_of(state)  # the amount that the Rust has
         self.lost = False  # whether an unlisted difference came up since
 
-    def step(self, line, how, at, ours, theirs):
-        self.due = ""  # the field of C-12, where the console's is another
+    def step(self, line, how, at, ours, theirs, beside):
+        """`beside` are the Rust's answers to what it was asked beside the line."""
+        self.due = ""  # the field of C-12, or the answer to a reset, where the console's is another
+        self.beside = beside
         self.counts.lines += 1
         if how == UNREADABLE:
             self.counts.kinds["(unreadable)"] += 1
@@ -306,7 +361,7 @@ class Judge:
         if sides:
             self.counts.removed[words[0]][sides] += 1
         if cut != due:
-            self.due = due
+            self.due += due
             why = why or ("C-12's amounts are due" if cut else "the field of C-12 is missing")
         return why
 
@@ -317,7 +372,7 @@ class Judge:
             self.counts.left_out["after an unlisted difference"] += 1
             return None
         why = self.call(words, how, before, ours, theirs)
-        if goes_apart(self.config, words):
+        if goes_apart(self.config, words) or words[0] == "reset":
             self.lend(*state_of(record_of(self.state).split(" ")))
         return why
 
@@ -347,6 +402,8 @@ class Judge:
             return self.list(row, outcome(theirs), reason)
         if is_both(words) and ours != raise_both(self.config, words, before):
             return "C-14's answer is due"
+        if words[0] == "reset":
+            return self.reset(before, ours, theirs)
         if not self.held:
             return self.leave_out("record", theirs)
         if not self.level:
@@ -360,6 +417,28 @@ class Judge:
                 return f"row {lacking[1]} is due, and the record as it was"
             return self.leave_out(words[0], theirs)
         return self.attributed(words, before, ours, theirs)
+
+    def reset(self, before, ours, theirs):
+        opened = self.beside[0]
+        if not opened.startswith("0 "):
+            return "the Rust does not open on the defaults: " + opened
+        if ours != reset_due(before, opened):
+            self.due = reset_due(before, opened)
+            return "C-11's answer is due"
+        kept = list(settings_in(ANSWER.fullmatch(opened)[2]).values()) == list(map(str, self.config.defaults))
+        if self.config.numbers[:7] + self.config.defaults not in self.table:
+            rust = "leaves them as they are" if kept else "repairs them"
+            return self.list(RESET_OPENED, rust) if theirs == "? table" else "the Rust has other defaults"
+        if not self.held:
+            return self.leave_out("record", theirs)
+        if not self.level:
+            return "compare.py asks on after a listed difference"
+        if theirs != defaults_put_in(self.config, with_amount(before, self.rusts)):
+            return "the Rust does not just put the defaults in"
+        if kept and ours != with_amount(with_order(self.config, theirs), amount_of(before)):
+            return "the answers differ, and not by order and bit 9 alone"
+        bit = " pend={} ".format(STATE.fullmatch(ANSWER.fullmatch(ours)[2])[9]) in theirs
+        return self.list(RESET if kept else RESET_REPAIRED, "no order" if bit else "no order, no bit 9")
 
     def attributed(self, words, before, ours, theirs):
         """Equal answers but for the amount of C-20, from the sweep that records it until another is recorded."""
@@ -405,23 +484,27 @@ def outcome(theirs):
 # --- The two programs
 
 class Pair:
-    def __init__(self, console, oracle, folder):
-        self.programs, self.folder = (console, oracle), pathlib.Path(folder)
+    def __init__(self, console, oracle, folder, table):
+        self.programs, self.folder, self.table = (console, oracle), pathlib.Path(folder), table
 
     def ask(self, items):
-        """Both programs' answers to lines, each with how it is meant: for each a pair, of none where no answer is due."""
+        """Both programs' answers to lines, each with how it is meant, none where no answer is due; and the Rust's to what it is asked
+        beside the line."""
         ours = self.answers(self.programs[0], [line for line, _ in items])
-        asked = []  # of the Rust, each with whether its answer counts: behind Both with AUTO it gets the console's record
+        asked = []  # of the Rust, at each line: behind Both with AUTO, and behind a reset, it gets the console's record
         config = Config([0] * 5, [0] * 7)
         for (line, how), answer in zip(items, ours):
-            asked.append((line if how != CONSOLE_ALONE else "#", True))
+            asked.append([line if how != CONSOLE_ALONE else "#"])
             words = line.split(" ")
             if how == BOTH and words[0] == "config":
                 config = Config.read(words)
-            if how == BOTH and goes_apart(config, words) and (done := ANSWER.fullmatch(without_cut(answer)[0])):
-                asked.append((record_of(done[2]), False))
-        theirs = self.answers(self.programs[1], [line for line, _ in asked])
-        return zip(ours, counted(asked, theirs))
+            if how == BOTH and words[0] == "reset":
+                asked[-1].append(opening_on_defaults(config))
+            apart = how == BOTH and (words[0] == "reset" or goes_apart(config, words))
+            if apart and (done := ANSWER.fullmatch(without_cut(answer)[0])):
+                asked[-1].append(record_of(done[2]))
+        theirs = self.answers(self.programs[1], [line for lines in asked for line in lines])
+        return ((answer, *told) for answer, told in zip(ours, by_line(asked, theirs)))
 
     def answers(self, program, lines):
         """A program's answer to each line, or none where none is due."""
@@ -442,14 +525,14 @@ def answered(line):
     return line != "" and line[0] != "#"
 
 
-def counted(asked, answers):
-    """The answers that count. Those to an unreadable line have its number, without the lines whose answers do not."""
-    more = 0
-    for (_, counts), answer in zip(asked, answers):
-        more += not counts
-        if counts:
-            unreadable = re.fullmatch(r"error (\d+)", answer or "")
-            yield f"error {int(unreadable[1]) - more}" if unreadable else answer
+def by_line(asked, answers):
+    """The answer to each line, and those to what was asked beside it. An unreadable line has its number without what was asked beside."""
+    answers, more = iter(answers), 0
+    for lines in asked:
+        answer, *beside = [next(answers) for _ in lines]
+        unreadable = re.fullmatch(r"error (\d+)", answer or "")
+        yield f"error {int(unreadable[1]) - more}" if unreadable else answer, beside
+        more += len(beside)
 
 
 Complaint = collections.namedtuple("Complaint", "why lines longer ours theirs due")
@@ -457,13 +540,13 @@ Complaint = collections.namedtuple("Complaint", "why lines longer ours theirs du
 
 def run(pair, items, counts):
     """Complaints about a batch, each with the least lines that should draw it, and the lines since the record was set."""
-    judge = Judge(counts)
+    judge = Judge(counts, pair.table)
     config, since = [], 0
-    for index, ((line, how), (ours, theirs)) in enumerate(zip(items, pair.ask(items))):
+    for index, ((line, how), (ours, theirs, beside)) in enumerate(zip(items, pair.ask(items))):
         if ours is None:
             continue
         state, word = judge.state, line.split(" ")[0]
-        why = judge.step(line, how, index + 1, ours, theirs)
+        why = judge.step(line, how, index + 1, ours, theirs, beside)
         if why:
             lead = [] if word in ("config", "open", "record") else [record_of(state)]
             least = [line] if how == UNREADABLE else [*config, *lead, line]
@@ -878,21 +961,22 @@ def changed_script(draw, table):
         yield from said(draw, call(draw, config, record.points))
 
 
+def beside(draw, config, points, count):
+    """Numbers, each at or beside a point or another one of them, or a dead band from it."""
+    for _ in range(count):
+        points = [*points, draw.near(points, config.band)]
+    return points[-count:]
+
+
 def repair_script(draw, table):
     """Openings and limits messages alone: each number at or beside another one of them, or a dead band from it."""
     config = good_config(draw, table)
     yield config.line, BOTH
-
-    def beside(points, count):
-        for _ in range(count):
-            points = [*points, draw.near(points, config.band)]
-        return points[-count:]
-
     for _ in range(20):
-        settings = beside(config.limits, 6)
+        settings = beside(draw, config, config.limits, 6)
         yield "open " + " ".join(map(str, (*settings, draw.of(*config.modes * 3, *MODES)))), BOTH
         for _ in range(draw.of(0, 1, 1, 2)):
-            yield "ooblimits " + " ".join(map(str, beside([*config.limits, *settings], 4))), BOTH
+            yield "ooblimits " + " ".join(map(str, beside(draw, config, [*config.limits, *settings], 4))), BOTH
 
 
 def both_script(draw, table):
@@ -909,6 +993,46 @@ def both_script(draw, table):
             yield line + readings(draw, line, draw.relays(), ["-"], 0), BOTH
 
 
+def other_defaults(draw, config):
+    """The configuration with defaults that stand in no row, or with none."""
+    settings = beside(draw, config, config.limits, 6)
+    if draw.chance(0.3):
+        settings[2:] = config.limits
+    defaults = draw.of([], *[[*settings, draw.of(*config.modes * 3, *MODES, 2, 10, 255)]] * 3)
+    return Config(config.served, config.numbers[:7] + defaults)
+
+
+def reset(draw):
+    clock = draw.of(0, LAST_CLOCK, LAST_CLOCK + 1, (1 << 64) - 1)  # row 27 is not for a reset
+    return "reset" + readings(draw, "reset", draw.relays(), ["-", 2000, draw.any16()], clock)
+
+
+def with_resets(draw, script):
+    """A script with resets among its calls, and now and then other defaults; drawn apart, so that all else in it stays as it was."""
+    for line, how in script:
+        word = line.split(" ")[0]
+        if how == BOTH and word == "config" and draw.chance(0.2):
+            line = other_defaults(draw, Config.read(line.split(" "))).line
+        if how != UNREADABLE and word in KINDS and draw.chance(0.04):
+            yield from said(draw, reset(draw))
+        yield line, how
+
+
+def reset_script(draw, table):
+    """Resets alone, on records of every kind, some of them behind one another."""
+    config = good_config(draw, table)
+    for _ in range(20):
+        yield (config if draw.chance(0.5) else other_defaults(draw, config)).line, BOTH
+        record = Record(draw, config)
+        if draw.chance(0.03):
+            record.spoil(draw, config)
+        elif draw.chance(0.02):
+            record.outgrow(draw)
+        yield record.line(), BOTH
+        for _ in range(draw.of(1, 1, 1, 2)):
+            yield reset(draw), BOTH
+
+
 def scripts_of(script, seed, table):
     draw = Draw(seed)
     while True:
@@ -916,10 +1040,10 @@ def scripts_of(script, seed, table):
 
 
 def drawn_scripts(seed, table):
-    draw = Draw(seed)
+    draw, resets = Draw(seed), Draw(f"{seed} resets")
     scripts = [chain_script] * 4 + [refused_script] * 4 + [changed_script] + [records_script] * 31
     while True:
-        yield list(draw.of(*scripts)(draw, table))
+        yield list(with_resets(resets, draw.of(*scripts)(draw, table)))
 
 
 # --- SHORT LISTS, run through completely
@@ -1022,6 +1146,7 @@ def lent_calls(table):
         yield config, ((record, f"{word} {value}") for word in ("mode", "oobmode", "sequence") for value in range(256))
         yield config, ((record, f"raise {mode} 5") for mode in range(256))
         yield config, ((fitting(config, pending=pending).line(), "sweep @ 5 0 2000 - 4 70000") for pending in range(1024))
+        yield config, ((fitting(config, pending=pending).line(), "reset @ 5 0 2000 - 4 70000") for pending in range(1024))
     # Relays, before and after an order, and beside the snapshot.
     for config, step in (plain(plant), 1), (plain(heats, HEAT | TEVT), 8), (plain(cools, COOL | TEVT), 8):
         record = fitting(config)
@@ -1052,7 +1177,7 @@ def short_lists(table):
         for part in in_parts(pairs, 200):
             yield [(config.line, BOTH)] + [(line, BOTH) for pair in part for line in pair]
     # Every list of three calls, from an opening.
-    calls = LIST_CALLS.strip().replace("\n", "; ").split("; ")
+    calls = [*LIST_CALLS.strip().replace("\n", "; ").split("; "), "reset @ 0 1 - - 6 0"]
     for config in plain(table[0]), plain(table[0], without=LIMITS), plain(table[4], HEAT | COOL | TEVT):
         meant = [(line, CONSOLE_ALONE if config.added(line.split(" ")) == 24 else BOTH) for line in calls]
         for lists in in_parts(itertools.product(meant, repeat=3), 50):
@@ -1086,6 +1211,8 @@ def compare(arguments):
             yield from scripts_of(repair_script, arguments.seed, table)
         if arguments.both:
             yield from scripts_of(both_script, arguments.seed, table)
+        if arguments.reset:
+            yield from scripts_of(reset_script, arguments.seed, table)
         drawn = drawn_scripts(arguments.seed, table)
         for script in short_lists(table):
             yield script
@@ -1094,7 +1221,7 @@ def compare(arguments):
         yield from drawn
 
     with tempfile.TemporaryDirectory() as folder:
-        pair = Pair(arguments.console, arguments.oracle, folder)
+        pair = Pair(arguments.console, arguments.oracle, folder, table)
         for items in in_batches(scripts()):
             for found in run(pair, items, counts):
                 unlisted += 1
@@ -1110,10 +1237,10 @@ def compare(arguments):
         print(f"  {name:<64}{count:>9}{more}")
 
     print(f"seed {arguments.seed}, table of {len(table)} rows, {counts.lines} lines answered, {time.monotonic() - started:.0f} s")
-    alone = "openings and limits messages alone" * arguments.repair or "Both alone" * arguments.both
+    alone = "openings and limits messages alone" * arguments.repair or "Both alone" * arguments.both or "resets alone" * arguments.reset
     print("  " + (alone or f"short lists {'complete' if complete else 'cut short'}"))
     row("calls", counts.calls)
-    row("of them in document 01's domain", counts.domain())
+    row("of them in document 01's domain, or resets", counts.domain())
     print("lines by kind")
     for name, count in sorted(counts.kinds.items()):
         row(name, count)
@@ -1138,7 +1265,7 @@ def compare(arguments):
 def comparable_parts(pair, items):
     """Parts of a batch that hold no listed difference: the configuration, then a `record` or `open` and calls, with answers."""
     config, part, state = None, [], None
-    for (line, how), (_, answer) in zip(items, pair.ask(items)):
+    for (line, how), (_, answer, _) in zip(items, pair.ask(items)):
         words = line.split(" ")
         if answer is None or how != BOTH:
             continue
@@ -1243,10 +1370,10 @@ def answers_of(program, path):
 
 def replay(arguments):
     calls, folder = int(arguments.replay[0]), pathlib.Path(arguments.replay[1])
-    table = read_table(arguments.oracle)
+    table = [numbers[:7] for numbers in read_table(arguments.oracle)]  # without defaults: no reset is in it
     seen, kept, told, current = collections.Counter(), [], [], None
     with tempfile.TemporaryDirectory() as temporary:
-        pair = Pair(arguments.oracle, arguments.oracle, temporary)
+        pair = Pair(arguments.oracle, arguments.oracle, temporary, table)
         batches = in_batches(replay_scripts(arguments.seed, table))
         for config, part in (found for items in batches for found in comparable_parts(pair, items)):
             keep = shown_anew(config, part, seen)
@@ -1276,7 +1403,8 @@ def replay(arguments):
     print("by answer:", ", ".join(f"{name}: {count}" for name, count in sorted(numbers.items())))
     cutting = collections.Counter(line.split(" ")[0] for line, _, due, _ in cases if not due.endswith(("ok", " cut=0/0")))
     print("with an amount removed other than 0:", ", ".join(f"{name} {count}" for name, count in sorted(cutting.items())))
-    complete = set(numbers) == {*range(24), 25} and set(kinds) == {"config", "record", "open", *KINDS} and set(cutting) == set(CLAMPS)
+    complete = set(numbers) == {*range(24), 25} and set(kinds) == {"config", "record", "open", *KINDS}
+    complete &= {*cutting, "reset"} == set(CLAMPS)
     if not complete or len(requests) < 2:
         sys.exit("some kind of call, or answer, is not in it")
     return 0
@@ -1290,6 +1418,7 @@ def main():
     parser.add_argument("oracle", nargs="?", default=str(ROOT / "oracle/target/release/oracle"))
     parser.add_argument("--repair", action="store_true")
     parser.add_argument("--both", action="store_true")
+    parser.add_argument("--reset", action="store_true")
     parser.add_argument("--replay", nargs=2, metavar=("CALLS", "OUTDIR"))
     arguments = parser.parse_args()
     return replay(arguments) if arguments.replay else compare(arguments)

@@ -24,8 +24,9 @@ FORMS = {
     "config": "wdqqqhhhhtbh", "open": "hhhhhhb", "record": "hhhhhhbfwbHdHHDQ", "heat": "h", "cool": "h", "minheat": "h", "maxheat": "h",
     "mincool": "h", "maxcool": "h", "mode": "b", "sequence": "b", "raise": "bt", "arm": "", "oobheat": "h", "oobcool": "h", "oobmode": "b",
     "ooblimits": "hhhh", "oobtemp": "", "oobrunning": "", "oobupdate": "", "start": "", "sweep": "", "timer": "", "deadline": "",
+    "reset": "",
 }  # fmt: skip
-SNAPSHOT = "Hhhbwb"
+MORE = {"config": "hhhhhhb", "record": "Hhhbwb"}  # what may follow, all of it or nothing; at the others the readings
 AMOUNT = rb"(0|-?[1-9]\d*)"
 ANSWER = re.compile(rb"ok|error \d+|\d+ h=\S+ c=.* events=\S+( deadline=\S+)? cut=" + AMOUNT + b"/" + AMOUNT)
 RANGES = {"b": (0, 255), "w": (0, 65535), "d": (0, 2**32 - 1), "q": (0, 2**64 - 1), "t": (-128, 127), "h": (-32768, 32767), "f": (0, 1)}
@@ -81,10 +82,7 @@ def shapes():
     """Every form that a line may have: its first word, and the letters, `@` among them."""
     for word, letters in FORMS.items():
         yield word, letters
-        if word == "record":
-            yield word, letters + SNAPSHOT
-        elif word != "config":
-            yield word, letters + "@" + READINGS
+        yield word, letters + MORE.get(word, "@" + READINGS)
 
 
 def put(word, letters, changes=None):
@@ -129,10 +127,10 @@ def types():
 def counts_of_numbers():
     cases = []
     for word, letters in FORMS.items():
-        whole = len(letters) + (6 if word == "record" else 0 if word == "config" else 7)
-        fields = put(word, letters + (SNAPSHOT if word == "record" else "" if word == "config" else "@" + READINGS)).split(b" ")
-        for count in range(whole + 1):
-            cases.append((b" ".join(fields[: count + 1]), count in (len(letters), whole)))
+        whole = letters + MORE.get(word, "@" + READINGS)
+        fields = put(word, whole).split(b" ")
+        for count in range(len(whole) + 1):
+            cases.append((b" ".join(fields[: count + 1]), count in (len(letters), len(whole))))
         for more in 1, 2, 7, 50:
             cases.append((b" ".join(fields + [b"0"] * more), False))
         bare = put(word, letters)
@@ -149,6 +147,7 @@ def counts_of_numbers():
 def every_byte():
     """Lines with one byte replaced, put in or taken out, through all its values: both read them, or neither."""
     sources = [b"record 1 -2 3 4 5 6 0 1 2 0 - 7 - - - 8 - 1 2 3 4 0", b"config 11 547 5 59 1 7 29 16 32 25 4 50"]
+    sources += [b"config 11 3 5 0 1 7 29 16 32 25 4 50 20 22 7 29 -16 32 4", b"reset @ 1 2 - 3 - 60000"]
     sources += [b"heat 20 @ 1 2 - 3 - 60000", b"raise 2 -10", b"arm"]
     lines = []
     for source in sources:
@@ -202,15 +201,15 @@ def ends():
     # The start: all zero, and blank.
     blank = b"h=0 c=0 minh=0 maxh=0 minc=0 maxc=0 mode=0 dirty=0 pend=0 shadow=- last=- src=0 amt=- ts=0 att=- armed=-"
     blank += b" order=- notices=- events=-"
-    told = ask(CONSOLE, b"open 1 2 3 4 5 6 1\narm\ndeadline\n")
-    check(told == nothing_cut([b"1 " + blank, b"28 " + blank, b"28 " + blank + b" deadline=-"]), "before any config")
+    told = ask(CONSOLE, b"open 1 2 3 4 5 6 1\narm\nreset\ndeadline\n")
+    check(told == nothing_cut([b"1 " + blank, b"28 " + blank, b"28 " + blank, b"28 " + blank + b" deadline=-"]), "before any config")
 
 
 def taken_as_written():
     """What a record line says comes back in the answer: at the ends of every type, on a call that changes nothing."""
     names = "h c minh maxh minc maxc mode dirty pend src amt ts".split()
     lines, states = [], []
-    for place, letter in enumerate(FORMS["record"] + SNAPSHOT):
+    for place, letter in enumerate(FORMS["record"] + MORE["record"]):
         low, high = RANGES[letter.lower()]
         for value in [low, high, 0, high // 3, low // 3] + ["-"] * (letter in "DQH"):
             fields = "11 -22 33 -44 55 -66 7 0 88 9 -1 11 -12 13 14 15 -16 17 -18 19 20 21".split(" ")
@@ -235,6 +234,52 @@ def amounts():
         told = [answer.rpartition(b" ")[2] for answer in ask(CONSOLE, lines_of(lines))]
         due = [b"ok"] + [b"cut=%d/%d" % (value - heating, -1 - value - cooling) for value in range(low, high + 1)]
         check(told == due, "amounts removed", *[pair for pair in zip(told, due) if pair[0] != pair[1]][:3])
+
+
+def defaults():
+    """What a config line says of the defaults is what a reset puts in, on a plant that cuts nothing off: every number of 16 bits at each
+    of the six, every mode. Without them they are 0."""
+    plant = b"config 11 3 403046401 0 1 -32768 32767 -32768 32767 0 4 0"
+    lent = b"record 1 -2 3 -4 5 -6 3 1 5 2 -7 8 9 -10 11 12 -13 14 -15 4 16 4"
+    rest = b"dirty=0 pend=5 shadow=-13/14/-15/4/16/4 last=12 src=2 amt=-7 ts=8 att=9/-10 armed=11 order=%d/%d/%d notices=ffff"
+    rest += b" events=- cut=0/0"
+
+    def answer(*numbers, mode):
+        mode = mode if mode in (0, 3, 4) else 0  # all others are unsupported there
+        return b"0 h=%d c=%d minh=%d maxh=%d minc=%d maxc=%d mode=%d " % (*numbers, mode) + rest % (mode, *numbers[:2])
+
+    def told(lines):
+        return ask(CONSOLE, lines_of(lines))
+
+    low, high = RANGES["h"]
+    some = [11, -22, 33, -44, 55, -66, 4]
+    for place in range(7):
+        lines, due = [], []
+        for value in range(low, high + 1) if place < 6 else range(256):
+            said = [*some[:place], value, *some[place + 1 :]]
+            lines += [b"%s %s" % (plant, " ".join(map(str, said)).encode()), lent, b"reset"]
+            due += [b"ok", b"ok", answer(*said[:6], mode=said[6])]
+        got = told(lines)
+        check(got == due, "defaults", *[pair for pair in zip(got, due) if pair[0] != pair[1]][:3])
+    full = plant + b" 11 -22 33 -44 55 -66 4"
+    put_in, zeros = answer(*some[:6], mode=4), answer(*[0] * 6, mode=0)
+    resets = b"reset", b"reset @ 1 2 2000 7 8 9", b"reset @ 0 65535 - - - 18446744073709551615"
+    for line in resets:
+        check(told([full, lent, line]) == [b"ok", b"ok", put_in], "a reset, whatever is read", line)
+        check(told([plant, lent, line]) == [b"ok", b"ok", zeros], "no defaults", line)
+        check(told([full, plant, lent, line]) == [b"ok", b"ok", b"ok", zeros], "no defaults behind some", line)
+        check(told([plant, full, lent, line]) == [b"ok", b"ok", b"ok", put_in], "defaults behind none", line)
+    numbers = full.split(b" ")
+    for count in *range(14, 20), 21:  # words, with the first
+        cut_short = b" ".join((numbers + [b"0"])[:count])
+        check(told([full, cut_short, lent, b"reset"]) == [b"ok", b"error 2", b"ok", put_in], "changes nothing", cut_short)
+        check(told([plant, cut_short, lent, b"reset"]) == [b"ok", b"error 2", b"ok", zeros], "changes nothing", cut_short)
+    for place in range(13, 20):
+        for text in b"-", b"@", b"32768", b"-32769" if place < 19 else b"256", b"-1" if place == 19 else b"+1":
+            spoiled = b" ".join([*numbers[:place], text, *numbers[place + 1 :]])
+            check(told([full, spoiled, lent, b"reset"]) == [b"ok", b"error 2", b"ok", put_in], "changes nothing", spoiled)
+    for line in b"reset 0", b"reset -", b"reset @", b"reset @ 0 0 - - -", b"reset @ 0 0 - - - 0 0", b"reset ", b"Reset", b"resets":
+        check(told([full, lent, line, b"reset"]) == [b"ok", b"ok", b"error 3", put_in], "no reset", line)
 
 
 def in_pieces():
@@ -308,6 +353,7 @@ if __name__ == "__main__":
     ends()
     taken_as_written()
     amounts()
+    defaults()
     in_pieces()
     speed()
     odd_handles()

@@ -5,12 +5,14 @@ The Rust does not tell them, so compare.py holds the console's beside these. Pyt
 
 import re
 
-REPAIRS = "open", "ooblimits"  # they end in repair, whose first clamp of each setpoint counts
+REPAIRS = "open", "ooblimits", "reset"  # they end in repair, whose first clamp of each setpoint counts
 CLAMPS = *REPAIRS, "oobheat", "oobcool", "raise"
 
 
-def asked(words, heating, cooling):
+def asked(config, words, heating, cooling):
     """What is asked of each side, none of one that is not named; `heating` and `cooling` are the setpoints before the call."""
+    if words[0] == "reset":
+        return config.defaults[0], config.defaults[1]
     if words[0] == "open":
         return int(words[1]), int(words[2])
     if words[0] == "ooblimits":
@@ -37,7 +39,7 @@ def removed(config, words, before, number, after):
     limits = [int((new if words[0] in REPAIRS else old)[name]) for name in ("minh", "maxh", "minc", "maxc")]
     low_heat, high_heat = (limits if config.heat_limits else config.limits)[:2]
     low_cool, high_cool = (limits if config.cool_limits else config.limits)[2:]
-    heating, cooling = asked(words, int(old["h"]), int(old["c"]))
+    heating, cooling = asked(config, words, int(old["h"]), int(old["c"]))
     return (
         beyond(low_heat, heating, high_heat) if config.heats and heating is not None else 0,
         beyond(low_cool, cooling, high_cool) if config.cools and cooling is not None else 0,

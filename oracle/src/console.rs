@@ -36,15 +36,18 @@ const REFUSALS: [&str; 21] = [
     "CONTROL_SEQUENCE_OF_OPERATION does not match",
 ];
 
-/// The plant is none where the table lacks the configuration's numbers, the record where the Rust's types cannot hold it.
+/// The plant is none where the table lacks the configuration's numbers, the record and the defaults where the Rust's types cannot hold them.
 struct Console {
     plant: Option<&'static Plant>,
+    defaults: Option<Settings>,
     record: Option<Record>,
 }
 
 pub fn run(mut input: impl BufRead, mut out: impl Write) -> io::Result<()> {
     std::panic::set_hook(Box::new(|_| ()));
-    let mut console = Console { plant: Plant::find(&Row::default()), record: Some(Record::BLANK) };
+    let blank = Record::BLANK;
+    let mut console =
+        Console { plant: Plant::find(&Row::default()), defaults: Some(blank.settings), record: Some(blank) };
 
     let mut line = Vec::new();
     let mut number = 0;
@@ -63,9 +66,10 @@ pub fn run(mut input: impl BufRead, mut out: impl Write) -> io::Result<()> {
 impl Console {
     fn answer(&mut self, line: Line, out: &mut impl Write) -> io::Result<()> {
         match line {
-            Line::Config(served, row) => {
+            Line::Config(served, row, defaults) => {
                 dm::serve(served);
                 self.plant = Plant::find(&row);
+                self.defaults = defaults;
                 writeln!(out, "ok")
             }
             Line::Record(record) => {
@@ -78,6 +82,9 @@ impl Console {
             },
             Line::Call(call, readings) => match self.plant {
                 None => writeln!(out, "? table"),
+                Some(plant) if matches!(call, Some(Call::Reset)) && self.defaults != Some(plant.defaults) => {
+                    writeln!(out, "? table")
+                }
                 Some(plant) => self.call(plant, call, readings, out),
             },
         }

@@ -144,6 +144,7 @@ where
             deadline = handler.deferred_local_temperature_deadline().map(|at| at.0);
             Ok(())
         }
+        Call::Reset => handler.lifecycle(ctx, LifecycleOp::FactoryReset),
     };
     Answer { number: number(result), deadline }
 }

@@ -14,7 +14,7 @@ use crate::thermostat::OutOfBandMessage;
 const LONGEST: usize = 250;
 
 pub enum Line {
-    Config(Served, Row),
+    Config(Served, Row, Option<Settings>),
     Open(Option<Settings>, Readings),
     Record(Option<Record>),
     Call(Option<Call>, Readings),
@@ -89,7 +89,8 @@ impl<'a> Words<'a> {
             sequence: self.number()?,
             delta: self.number()?,
         };
-        Ok(Line::Config(served, row))
+        let defaults = if self.more() { self.settings()? } else { Some(Record::BLANK.settings) };
+        Ok(Line::Config(served, row, defaults))
     }
 
     fn settings(&mut self) -> Read<Option<Settings>> {
@@ -158,6 +159,7 @@ impl<'a> Words<'a> {
             b"sweep" => Call::Sweep,
             b"timer" => Call::Timer,
             b"deadline" => Call::Deadline,
+            b"reset" => Call::Reset,
             _ => return Ok(self.message(word)?.map(Call::Message)),
         }))
     }

@@ -16,6 +16,7 @@ struct PapersPlant;
 
 impl Numbers for PapersPlant {
     const ROW: Row = TABLE[0];
+    const DEFAULTS: Settings = SETTINGS;
     const CLUSTER: Cluster<'static> =
         Cluster::fixed(Served { revision: 11, features: 547, attributes: 1972525402030201, events: 59, commands: 1 });
 }

@@ -29,11 +29,12 @@ impl Row {
     }
 }
 
-// `TABLE`, and in `PLANTS` a `Plant::of` for each of its rows.
+// `TABLE`, in `DEFAULTS` the settings that a reset puts in, and in `PLANTS` a `Plant::of`, for each row.
 include!(concat!(env!("OUT_DIR"), "/table.rs"));
 
 pub trait Numbers {
     const ROW: Row;
+    const DEFAULTS: Settings;
     const CLUSTER: Cluster<'static>;
 }
 
@@ -42,6 +43,7 @@ struct Listed<const I: usize>;
 
 impl<const I: usize> Numbers for Listed<I> {
     const ROW: Row = TABLE[I];
+    const DEFAULTS: Settings = DEFAULTS[I];
     const CLUSTER: Cluster<'static> = Cluster::CURRENT;
 }
 
@@ -60,6 +62,13 @@ impl<N: Numbers> ThermostatHooks for Hooks<'_, N> {
     const CONTROL_SEQUENCE_OF_OPERATION: ControlSequenceOfOperationEnum =
         ControlSequenceOfOperationEnum::from_code(N::ROW.sequence).unwrap();
     const LOCAL_TEMPERATURE_EVENT_DELTA: i16 = N::ROW.delta;
+    const OCCUPIED_HEATING_SETPOINT: i16 = N::DEFAULTS.heating;
+    const OCCUPIED_COOLING_SETPOINT: i16 = N::DEFAULTS.cooling;
+    const MIN_HEAT_SETPOINT_LIMIT: i16 = N::DEFAULTS.min_heat;
+    const MAX_HEAT_SETPOINT_LIMIT: i16 = N::DEFAULTS.max_heat;
+    const MIN_COOL_SETPOINT_LIMIT: i16 = N::DEFAULTS.min_cool;
+    const MAX_COOL_SETPOINT_LIMIT: i16 = N::DEFAULTS.max_cool;
+    const SYSTEM_MODE: SystemModeEnum = N::DEFAULTS.mode;
 
     fn local_temperature(&self) -> Option<i16> {
         self.world.readings.temperature
@@ -87,13 +96,14 @@ pub fn handler<N: Numbers>(world: &World) -> ThermostatHandler<Hooks<'_, N>> {
 
 /// One row's code. An opening and a call each get a handler of their own, which is lent the record and gives it back.
 pub struct Plant {
+    pub defaults: Settings,
     pub open: fn(&World, &Settings) -> Record,
     pub call: fn(&World, &mut Record, &Call) -> Answer,
 }
 
 impl Plant {
     const fn of<N: Numbers>() -> Self {
-        Self { open: open::<N>, call: call::<N> }
+        Self { defaults: N::DEFAULTS, open: open::<N>, call: call::<N> }
     }
 
     pub fn find(row: &Row) -> Option<&'static Self> {
@@ -102,8 +112,11 @@ impl Plant {
 }
 
 pub fn print_table(mut out: impl Write) -> io::Result<()> {
-    for Row { abs_min_heat, abs_max_heat, abs_min_cool, abs_max_cool, dead_band, sequence, delta } in TABLE {
-        writeln!(out, "{abs_min_heat} {abs_max_heat} {abs_min_cool} {abs_max_cool} {dead_band} {sequence} {delta}")?;
+    for (row, defaults) in TABLE.iter().zip(&DEFAULTS) {
+        let Row { abs_min_heat, abs_max_heat, abs_min_cool, abs_max_cool, dead_band, sequence, delta } = row;
+        let Settings { heating, cooling, min_heat, max_heat, min_cool, max_cool, mode } = defaults;
+        write!(out, "{abs_min_heat} {abs_max_heat} {abs_min_cool} {abs_max_cool} {dead_band} {sequence} {delta} ")?;
+        writeln!(out, "{heating} {cooling} {min_heat} {max_heat} {min_cool} {max_cool} {}", *mode as u8)?;
     }
     out.flush()
 }

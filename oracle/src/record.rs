@@ -6,7 +6,7 @@ use crate::standins::decl::thermostat::{
 };
 use crate::thermostat::OutOfBandMessage;
 
-#[derive(Clone, Copy)]
+#[derive(Clone, Copy, PartialEq)]
 pub struct Settings {
     pub heating: i16,
     pub cooling: i16,
@@ -15,6 +15,14 @@ pub struct Settings {
     pub min_cool: i16,
     pub max_cool: i16,
     pub mode: SystemModeEnum,
+}
+
+impl Settings {
+    pub const fn of(hundredths: [i16; 6], mode: u8) -> Self {
+        let [heating, cooling, min_heat, max_heat, min_cool, max_cool] = hundredths;
+        let mode = SystemModeEnum::from_code(mode).unwrap();
+        Self { heating, cooling, min_heat, max_heat, min_cool, max_cool, mode }
+    }
 }
 
 #[derive(Clone, Copy)]
@@ -44,15 +52,7 @@ pub struct Record {
 
 impl Record {
     pub const BLANK: Self = Self {
-        settings: Settings {
-            heating: 0,
-            cooling: 0,
-            min_heat: 0,
-            max_heat: 0,
-            min_cool: 0,
-            max_cool: 0,
-            mode: SystemModeEnum::Off,
-        },
+        settings: Settings::of([0; 6], 0),
         dirty: false,
         pending: 0,
         shadow: None,
@@ -99,6 +99,7 @@ pub enum Call {
     Sweep,
     Timer,
     Deadline,
+    Reset,
 }
 
 /// A call's answer number, and what `deadline` adds to it.

@@ -137,6 +137,35 @@ fn a_sweep_goes_through_run() {
 }
 
 #[test]
+fn a_reset_puts_the_defaults_in() {
+    let plant = plant();
+    let record = "record 2300 2550 800 2900 1600 3200 4 1 5 2 -5 7 2000 2250 9 70 2050 2000 2250 1 1 4";
+    let rest = "dirty=0 pend=5 shadow=2050/2000/2250/1/1/4 last=70 src=2 amt=-5 ts=7 att=2000/2250 armed=9 order=- \
+                notices=ffff events=-";
+    let answers = ask(&[
+        &format!("{plant} 2000 2250 700 2900 1600 3200 1"),
+        record,
+        "reset @ 0 1 2000 3 4 5",
+        &plant,
+        "reset",
+        &config(0x203, without(&[0x19, 0x1e]), 27, "700 2900 1600 3200 0 5 0 3000 1500 2900 700 1600 3300 1"),
+        record,
+        "reset",
+        "open 3000 1500 2900 700 1600 3300 1",
+    ]);
+    let ok = "ok".to_owned();
+    let papers = format!("0 h=2000 c=2250 minh=700 maxh=2900 minc=1600 maxc=3200 mode=1 {rest}");
+    let unrepaired = format!("0 h=3000 c=1500 minh=2900 maxh=700 minc=1600 maxc=3300 mode=1 {rest}");
+    assert_eq!(answers[..5], [ok.clone(), ok.clone(), papers, ok.clone(), "? table".to_owned()]);
+    assert_eq!(answers[5..8], [ok.clone(), ok, unrepaired]);
+    assert!(
+        answers[8].starts_with("0 h=2900 c=1600 minh=2900 maxh=2900 minc=1600 maxc=3200 mode=0 "),
+        "{}",
+        answers[8]
+    );
+}
+
+#[test]
 fn what_has_no_answer() {
     let overflowing = config(FEATURES, ATTRIBUTES, EVENTS, "-32768 0 -32768 2900 25 4 50");
     let answers = ask(&[
