@@ -8,8 +8,9 @@ use Rattle.units.specs.Units.{hundredths}
 use Rattle.records.specs.Records.{currentSnapshot}
 use Rattle.model.specs.Answers.{Outcome}
 use Rattle.model.specs.Validation.{accepted}
+use Rattle.model.specs.FactoryReset.{delivered}
 use Rattle.model.specs.Step.{opened, step}
-use Rattle.model.specs.Plant.{at, plant, withDefaults, plantSettings, noReadings}
+use Rattle.model.specs.Plant.{at, plant, plantSettings, noReadings}
 use Rattle.model.specs.Removed.{openingRemoved, removed}
 use Rattle.model.specs.Lists.{Entry, entry, run}
 use Rattle.records.specs.declared.Config.{Config}
@@ -199,7 +200,7 @@ moved cfg = run cfg (opened cfg (plantSettings 2000 2250) .rec) (entry SeedEvent
 
 abbrev pub DefaultsRepaired : Type 0
 DefaultsRepaired =
-    let cfg = withDefaults outsideBand in
+    let cfg = delivered plant outsideBand in
     let r = moved cfg in
     let o = step cfg r heatStarted FactoryReset in
     (r .attrs .dirty ≡ true)

@@ -6,10 +6,12 @@ use Prim.Native.Nat.{ℕ}
 use Rattle.records.specs.Records.{withAttrs, updated}
 use Rattle.model.specs.Answers.{Outcome}
 use Rattle.model.specs.Orders.{orderOf, askSweep}
-use Rattle.model.specs.Validation.{accepted}
+use Rattle.model.specs.Validation.{validationRows, accepted}
 use Rattle.model.specs.Repair.{repairedRecord}
 use Rattle.model.specs.RepairedSettings.{repairedSettings}
+use Rattle.model.specs.Sound.{sound}
 use Rattle.records.specs.declared.Config.{Config}
+use Rattle.records.specs.declared.Settings.{Settings}
 use Rattle.records.specs.declared.Attrs.{Attrs}
 use Rattle.records.specs.declared.Controller.{Controller}
 use Rattle.records.specs.declared.Moment.the-variants.{Never}
@@ -46,3 +48,25 @@ ResetByFormula =
       events = [];
       deadline = Never;
     }
+
+-- a configuration with other defaults
+abbrev pub delivered : Config → Settings → Config
+delivered cfg s = record {
+  revision = cfg .revision;
+  features = cfg .features;
+  attributes = cfg .attributes;
+  events = cfg .events;
+  commands = cfg .commands;
+  absminheat = cfg .absminheat;
+  absmaxheat = cfg .absmaxheat;
+  absmincool = cfg .absmincool;
+  absmaxcool = cfg .absmaxcool;
+  deadband = cfg .deadband;
+  sequence = cfg .sequence;
+  delta = cfg .delta;
+  defaults = s;
+}
+
+-- rows 1 to 21 do not look at the defaults, and neither does row 28
+abbrev pub DefaultsNotTested : Type 0
+DefaultsNotTested = (cfg : Config) (s : Settings) → (validationRows (delivered cfg s) ≡ validationRows cfg) × ((r : Controller) → sound (delivered cfg s) r ≡ sound cfg r)

@@ -24,9 +24,10 @@ at n = hundredths (pos n)
 abbrev pub plantSettings : ℕ → ℕ → Settings
 plantSettings h c = record { heating = at h; cooling = at c; minheat = at 700; maxheat = at 2900; mincool = at 1600; maxcool = at 3200; mode = 1 }
 
--- HEAT, COOL, AUTO, TEVT; every attribute that document 01 names; events mode, temperature, setpoint, relays, running mode; SetpointRaiseLower
-abbrev pub withDefaults : Settings → Config
-withDefaults s = record {
+-- HEAT, COOL, AUTO, TEVT; every attribute that document 01 names; events mode, temperature, setpoint, relays, running mode; SetpointRaiseLower.
+-- It names no defaults (C-11): they are the settings that it opens on
+abbrev pub plant : Config
+plant = record {
   revision = 11;
   features = 0x223;
   attributes = 1972525402030201;
@@ -39,12 +40,8 @@ withDefaults s = record {
   deadband = record { 0 = pos 25 };
   sequence = 4;
   delta = at 50;
-  defaults = s;
+  defaults = plantSettings 2000 2250;
 }
-
--- document 01 names no defaults (C-11): they are the settings that it opens on
-abbrev pub plant : Config
-plant = withDefaults (plantSettings 2000 2250)
 
 abbrev pub noReadings : Readings
 noReadings = record { relaysbefore = 0; relaysafter = 0; temperature = NoReading; hook = NoSecond; node = NoSecond; clock = 0 }
