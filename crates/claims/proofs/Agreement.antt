@@ -137,7 +137,7 @@ module _ (cfg : Config) (ok : accepted cfg ≡ true) where
         → PointsEqual (after cfg q (entry (WriteOccupiedHeatingSetpoint h) d)) (after cfg r (entry (WriteOccupiedHeatingSetpoint h) d))
     heat-both h d e f =
         let s = step-both cfg ok d q r gq gr l (WriteOccupiedHeatingSetpoint h) in
-        points-of _ _ _ _ (heat-written h d q e) (heat-written h d r (sym (s .number) ∙ e)) (heating-points cfg d q r l h h refl f)
+        points-of _ _ _ _ (heat-written h d q e) (heat-written h d r (sym (s .number) ∙ e)) (heating-points cfg d q r l external h h refl f)
 
     cool-both : (c : Hundredths) (d : Readings) → number cfg q (entry (WriteOccupiedCoolingSetpoint c) d) ≡ 0 → (heats cfg ≡ true → q .attrs .settings .heating ≡ r .attrs .settings .heating)
         → PointsEqual (after cfg q (entry (WriteOccupiedCoolingSetpoint c) d)) (after cfg r (entry (WriteOccupiedCoolingSetpoint c) d))

@@ -43,6 +43,7 @@ pub(crate) fn call_of(f: Fields) -> Call {
         forms::TIMER => Call::Timer,
         forms::DEADLINE => Call::Deadline,
         forms::RESET => Call::FactoryReset,
+        forms::HOUR => Call::Hour(b),
         _ => Call::OutOfBand(message_of(f)),
     }
 }

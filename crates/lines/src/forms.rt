@@ -10,13 +10,13 @@ pub const NUMBERS: usize = 22;
 // The readings stand from this place on, after the mark.
 pub const READINGS: usize = 16;
 
-pub const ROWS: usize = 25;
+pub const ROWS: usize = 26;
 
 // A row for each first word: the word, filled up with blanks, and a letter for each number after it, filled up with dots.
 //
 // b, w, d and q: unsigned, of 8, 16, 32 and 64 bits. t and h: tenths and hundredths, signed, of 8 and 16 bits. f: 0 or 1.
 // D, Q, H and S: as d, q, h and h, or none. s: as h. @: the word that begins the readings. A line may end before @, S, s and a dot.
-const FORMS: [u8; 825] = *b"\
+const FORMS: [u8; 858] = *b"\
     config     wdqqqhhhhtbhshhhhhb...\
     open       hhhhhhb@........wwHDDq\
     record     hhhhhhbfwbHdHHDQShhbwb\
@@ -42,6 +42,7 @@ const FORMS: [u8; 825] = *b"\
     oobrunning @...............wwHDDq\
     oobupdate  @...............wwHDDq\
     reset      @...............wwHDDq\
+    hour       b@..............wwHDDq\
 ";
 
 // The rows, by their words.
@@ -94,6 +95,8 @@ pub const OOB_RUNNING: usize = 22;
 pub const OOB_UPDATE: usize = 23;
 
 pub const RESET: usize = 24;
+
+pub const HOUR: usize = 25;
 
 // A byte of the table, and a dot outside it.
 fn cell(row: usize, i: usize) -> u8 {

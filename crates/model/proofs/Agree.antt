@@ -188,9 +188,9 @@ module _ (cfg : Config) (d : Readings) where
 
   -- a store fixes its own side, and the other from the other's old value
   module _ (q r : Controller) (l : SameLimits (q .attrs .settings) (r .attrs .settings)) where
-    pub heating-points : (x y : Hundredths) → x ≡ y → (cools cfg ≡ true → q .attrs .settings .cooling ≡ r .attrs .settings .cooling) → PointsAlike (storeHeatingSetpoint cfg d external x q) (storeHeatingSetpoint cfg d external y r)
+    pub heating-points : (source : ℕ) (x y : Hundredths) → x ≡ y → (cools cfg ≡ true → q .attrs .settings .cooling ≡ r .attrs .settings .cooling) → PointsAlike (storeHeatingSetpoint cfg d source x q) (storeHeatingSetpoint cfg d source y r)
     unfolding storeHeatingSetpoint claimSetpoints
-    heating-points x y e f = record { heating = λ h. e; cooling = λ c. same-cooling-with-gap cfg (q .attrs .settings) (r .attrs .settings) l x y e (f c) }
+    heating-points source x y e f = record { heating = λ h. e; cooling = λ c. same-cooling-with-gap cfg (q .attrs .settings) (r .attrs .settings) l x y e (f c) }
 
     pub cooling-points : (x y : Hundredths) → x ≡ y → (heats cfg ≡ true → q .attrs .settings .heating ≡ r .attrs .settings .heating) → PointsAlike (storeCoolingSetpoint cfg d external x q) (storeCoolingSetpoint cfg d external y r)
     unfolding storeCoolingSetpoint claimSetpoints
@@ -198,7 +198,7 @@ module _ (cfg : Config) (d : Readings) where
 
   module _ (q r : Controller) (l : SameLimits (q .attrs .settings) (r .attrs .settings)) (p : SamePoints cfg (q .attrs .settings) (r .attrs .settings)) where
     stored-heat : (x y : Hundredths) → x ≡ y → PointsAlike (storeHeatingSetpoint cfg d external x q) (storeHeatingSetpoint cfg d external y r)
-    stored-heat x y e = heating-points q r l x y e (p .cooling)
+    stored-heat x y e = heating-points q r l external x y e (p .cooling)
 
     stored-cool : (x y : Hundredths) → x ≡ y → PointsAlike (storeCoolingSetpoint cfg d external x q) (storeCoolingSetpoint cfg d external y r)
     stored-cool x y e = cooling-points q r l x y e (p .heating)

@@ -14,13 +14,14 @@ use Rattle.records.specs.Records.{changedTo, withAttrs, withPending, setMinHeat
 use Rattle.model.specs.Modes.{runningState}
 use Rattle.model.specs.Limits.{inHeatLimits, inCoolLimits, clampHeatSetpoint, clampCoolSetpoint}
 use Rattle.units.specs.Units.{widened}
-use Rattle.model.specs.Attribution.{external, armedClock, servedSetpoints}
+use Rattle.model.specs.Attribution.{external, schedule, armedClock, servedSetpoints}
 use Rattle.model.specs.Writes.{applied, thenNoticed, coolingWithGap, heatingWithGap, relayNotices, sourceNotices, storeHeatingSetpoint, storeCoolingSetpoint, pullHeating, pullCooling, writeOccupiedHeatingSetpoint, writeOccupiedCoolingSetpoint, writeMinHeatSetpointLimit, writeMaxHeatSetpointLimit, writeMinCoolSetpointLimit, writeMaxCoolSetpointLimit, writeSystemMode, setControlSequenceOfOperation, armClock}
 use Rattle.model.specs.RaiseBoth.{heatingTarget, coolingTarget, heatingAfterGap, raiseBoth}
 use Rattle.model.specs.RaiseLower.{raiseHeating, raiseCooling, raiseSides, raiseLowerSetpoint}
 use Rattle.model.specs.Messages.{outOfBandMessage, modeMessage, heatingMessage, coolingMessage, limitsMessage}
 use Rattle.model.specs.Sweep.{Taken, started, localRecorded, modeEmitted, temperatureEmitted, coolingEmitted, heatingEmitted, relaysEmitted, runningModeEmitted, sameSnapshot, snapshotOf, noticeTable, rowNotices, tableNotices, attributedTo, attributeLocalSetpointChange, eventsOf, takenFrom, takeEvents, sweepEvents, swept, sweep, timer, seedEvents, deadline}
 use Rattle.model.specs.FactoryReset.{factoryReset}
+use Rattle.model.specs.Week.{millWeek, acts, storeEntry, hour}
 use Rattle.model.specs.Step.{step, stepSound}
 use Rattle.model.specs.Laws.{Bounded, NothingLost}
 use Rattle.records.specs.declared.Config.{Config}
@@ -37,7 +38,7 @@ use Rattle.records.specs.declared.Readings.{Readings}
 use Rattle.records.specs.declared.OutOfBandMessage.{OutOfBandMessage}
 use Rattle.records.specs.declared.OutOfBandMessage.the-variants.{LocalTemperature, RunningState, Update, OccupiedHeatingSetpoint, OccupiedCoolingSetpoint, SystemMode, SetpointLimits}
 use Rattle.records.specs.declared.Call.{Call}
-use Rattle.records.specs.declared.Call.the-variants.{WriteOccupiedHeatingSetpoint, WriteOccupiedCoolingSetpoint, WriteMinHeatSetpointLimit, WriteMaxHeatSetpointLimit, WriteMinCoolSetpointLimit, WriteMaxCoolSetpointLimit, WriteSystemMode, SetControlSequenceOfOperation, RaiseLowerSetpoint, ArmClock, OutOfBand, SeedEvents, Sweep, Timer, Deadline, FactoryReset}
+use Rattle.records.specs.declared.Call.the-variants.{WriteOccupiedHeatingSetpoint, WriteOccupiedCoolingSetpoint, WriteMinHeatSetpointLimit, WriteMaxHeatSetpointLimit, WriteMinCoolSetpointLimit, WriteMaxCoolSetpointLimit, WriteSystemMode, SetControlSequenceOfOperation, RaiseLowerSetpoint, ArmClock, OutOfBand, SeedEvents, Sweep, Timer, Deadline, FactoryReset, Hour}
 use Rattle.model.proofs.Logic.{length-onlyIf, by-cond, by-unless}
 use Rattle.model.proofs.Packing.{packed-codes, packed-slots}
 
@@ -191,7 +192,7 @@ module _ (cfg : Config) (d : Readings) where
   mode-bounded s h = (simp length-append (omega (arith, relay-most, notice-most 0x1C)), omega arith)
 
 sound-bounded : (cfg : Config) (r : Controller) (d : Readings) (k : Call) → Within (stepSound cfg r d k)
-unfolding stepSound writeOccupiedHeatingSetpoint writeOccupiedCoolingSetpoint writeMinHeatSetpointLimit writeMaxHeatSetpointLimit writeMinCoolSetpointLimit writeMaxCoolSetpointLimit writeSystemMode setControlSequenceOfOperation raiseLowerSetpoint armClock seedEvents sweep timer deadline factoryReset
+unfolding stepSound writeOccupiedHeatingSetpoint writeOccupiedCoolingSetpoint writeMinHeatSetpointLimit writeMaxHeatSetpointLimit writeMinCoolSetpointLimit writeMaxCoolSetpointLimit writeSystemMode setControlSequenceOfOperation raiseLowerSetpoint armClock seedEvents sweep timer deadline factoryReset hour storeEntry
 sound-bounded cfg r d (WriteOccupiedHeatingSetpoint v) = guarded _ r _ (applied-bounded cfg d _ (let m = heating-most cfg d external v r in omega arith))
 sound-bounded cfg r d (WriteOccupiedCoolingSetpoint v) = guarded _ r _ (applied-bounded cfg d _ (let m = cooling-most cfg d external v r in omega arith))
 sound-bounded cfg r d (WriteMinHeatSetpointLimit v) = guarded _ r _ (limit-bounded cfg d (withAttrs r (setMinHeat (r .attrs) v)) 0x15 (pullHeating cfg d) (pull-heat-most cfg d _))
@@ -209,6 +210,8 @@ sound-bounded cfg r d Sweep = guarded _ r _ (swept-bounded cfg d r)
 sound-bounded cfg r d Timer = guarded _ r _ (omega arith, taken-most cfg d r)
 sound-bounded cfg r d Deadline = (omega arith, omega arith)
 sound-bounded cfg r d FactoryReset = (omega arith, omega arith)
+sound-bounded cfg r d (Hour h) =
+    guarded _ r _ (by-cond Within (acts millWeek h) _ _ (λ e. applied-bounded cfg d _ (let m = heating-most cfg d schedule (clampHeatSetpoint cfg (r .attrs .settings) (widened (millWeek h))) r in omega arith)) (λ e. quiet-bounded 0 r))
 
 pub bounded : Bounded
 unfolding step

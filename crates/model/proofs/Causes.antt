@@ -14,6 +14,7 @@ use Rattle.model.specs.Messages.{outOfBandMessage, heatingMessage, cooli
 use Rattle.model.specs.Sweep.{sweep, timer, seedEvents, deadline}
 use Rattle.model.specs.Causes.{ofMessage, ofCall, rowsIn, causes}
 use Rattle.model.specs.FactoryReset.{factoryReset}
+use Rattle.model.specs.Week.{millWeek, acts, hour}
 use Rattle.model.specs.Step.{opened, step, stepSound}
 use Rattle.model.specs.Laws.{ByRows, OwnCase, OpeningOwnCase}
 use Rattle.records.specs.declared.Config.{Config}
@@ -23,7 +24,7 @@ use Rattle.records.specs.declared.Readings.{Readings}
 use Rattle.records.specs.declared.OutOfBandMessage.{OutOfBandMessage}
 use Rattle.records.specs.declared.OutOfBandMessage.the-variants.{LocalTemperature, RunningState, Update, OccupiedHeatingSetpoint, OccupiedCoolingSetpoint, SystemMode, SetpointLimits}
 use Rattle.records.specs.declared.Call.{Call}
-use Rattle.records.specs.declared.Call.the-variants.{WriteOccupiedHeatingSetpoint, WriteOccupiedCoolingSetpoint, WriteMinHeatSetpointLimit, WriteMaxHeatSetpointLimit, WriteMinCoolSetpointLimit, WriteMaxCoolSetpointLimit, WriteSystemMode, SetControlSequenceOfOperation, RaiseLowerSetpoint, ArmClock, OutOfBand, SeedEvents, Sweep, Timer, Deadline, FactoryReset}
+use Rattle.records.specs.declared.Call.the-variants.{WriteOccupiedHeatingSetpoint, WriteOccupiedCoolingSetpoint, WriteMinHeatSetpointLimit, WriteMaxHeatSetpointLimit, WriteMinCoolSetpointLimit, WriteMaxCoolSetpointLimit, WriteSystemMode, SetControlSequenceOfOperation, RaiseLowerSetpoint, ArmClock, OutOfBand, SeedEvents, Sweep, Timer, Deadline, FactoryReset, Hour}
 use Rattle.model.proofs.Logic.{by-cond, clear}
 use Rattle.model.proofs.Refused.{swept-done}
 
@@ -73,7 +74,7 @@ module _ (cfg : Config) (r : Controller) (d : Readings) where
   message-number (SetpointLimits a b c e) = refl
 
   sound-number : (k : Call) → stepSound cfg r d k .number ≡ firstFailing (rowsIn false (ofCall cfg (r .attrs .settings) d k))
-  unfolding firstFailing thenRows stepSound writeOccupiedHeatingSetpoint writeOccupiedCoolingSetpoint writeMinHeatSetpointLimit writeMaxHeatSetpointLimit writeMinCoolSetpointLimit writeMaxCoolSetpointLimit writeSystemMode setControlSequenceOfOperation raiseLowerSetpoint armClock seedEvents sweep timer deadline applied factoryReset
+  unfolding firstFailing thenRows stepSound writeOccupiedHeatingSetpoint writeOccupiedCoolingSetpoint writeMinHeatSetpointLimit writeMaxHeatSetpointLimit writeMinCoolSetpointLimit writeMaxCoolSetpointLimit writeSystemMode setControlSequenceOfOperation raiseLowerSetpoint armClock seedEvents sweep timer deadline applied factoryReset hour
   sound-number (WriteOccupiedHeatingSetpoint v) = unless-number _ r _ 0 refl
   sound-number (WriteOccupiedCoolingSetpoint v) = unless-number _ r _ 0 refl
   sound-number (WriteMinHeatSetpointLimit v) = unless-number _ r _ 0 refl
@@ -90,6 +91,7 @@ module _ (cfg : Config) (r : Controller) (d : Readings) where
   sound-number Timer = unless-number _ r _ 0 refl
   sound-number Deadline = refl
   sound-number FactoryReset = refl
+  sound-number (Hour h) = unless-number _ r _ 0 (by-cond (λ (o : Outcome). o .number ≡ 0) (acts millWeek h) _ _ (λ e. refl) (λ e. refl))
 
   step-number : (k : Call) → step cfg r d k .number ≡ firstFailing (causes cfg r d k)
   unfolding firstFailing thenRows step

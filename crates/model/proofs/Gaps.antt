@@ -18,7 +18,7 @@ use Rattle.model.specs.Refusals.{Row, unless, Clear, numbered}
 use Rattle.model.specs.Served.{auto, listed}
 use Rattle.model.specs.Units.{deadBand, GapKept}
 use Rattle.model.specs.Limits.{minHeatSetpoint, maxHeatSetpoint, minCoolSetpoint, maxCoolSetpoint, inHeatLimits, inCoolLimits, clampHeatSetpoint, clampCoolSetpoint}
-use Rattle.model.specs.Attribution.{external, armedClock, claimSetpoints, servedSetpoints}
+use Rattle.model.specs.Attribution.{external, schedule, armedClock, claimSetpoints, servedSetpoints}
 use Rattle.model.specs.Validation.{accepted}
 use Rattle.model.specs.Orders.{askSweep}
 use Rattle.model.specs.Writes.{applied, tooNearCooling, tooNearHeating, coolingWithGap, heatingWithGap, storeHeatingSetpoint, storeCoolingSetpoint, pullHeating, pullCooling, limitStored, writeOccupiedHeatingSetpoint, writeOccupiedCoolingSetpoint, writeMinHeatSetpointLimit, writeMaxHeatSetpointLimit, writeMinCoolSetpointLimit, writeMaxCoolSetpointLimit, writeSystemMode, setControlSequenceOfOperation, armClock}
@@ -27,6 +27,7 @@ use Rattle.model.specs.RaiseLower.{raiseHeating, raiseCooling, raiseSide
 use Rattle.model.specs.Messages.{outOfBandMessage, heatingMessage, coolingMessage, modeMessage, limitsMessage, limitsTaken}
 use Rattle.model.specs.Sweep.{Taken, snapshotOf, sameSnapshot, localRecorded, attributedTo, attributeLocalSetpointChange, started, takenFrom, takeEvents, sweepEvents, swept, sweep, timer, seedEvents, deadline}
 use Rattle.model.specs.FactoryReset.{defaultsTaken, factoryReset}
+use Rattle.model.specs.Week.{millWeek, acts, storeEntry, hour}
 use Rattle.model.specs.Step.{opened, step, stepSound}
 use Rattle.records.specs.declared.Config.{Config}
 use Rattle.records.specs.declared.Settings.{Settings}
@@ -40,7 +41,7 @@ use Rattle.records.specs.declared.Readings.{Readings}
 use Rattle.records.specs.declared.OutOfBandMessage.{OutOfBandMessage}
 use Rattle.records.specs.declared.OutOfBandMessage.the-variants.{LocalTemperature, RunningState, Update, OccupiedHeatingSetpoint, OccupiedCoolingSetpoint, SystemMode, SetpointLimits}
 use Rattle.records.specs.declared.Call.{Call}
-use Rattle.records.specs.declared.Call.the-variants.{WriteOccupiedHeatingSetpoint, WriteOccupiedCoolingSetpoint, WriteMinHeatSetpointLimit, WriteMaxHeatSetpointLimit, WriteMinCoolSetpointLimit, WriteMaxCoolSetpointLimit, WriteSystemMode, SetControlSequenceOfOperation, RaiseLowerSetpoint, ArmClock, OutOfBand, SeedEvents, Sweep, Timer, Deadline, FactoryReset}
+use Rattle.records.specs.declared.Call.the-variants.{WriteOccupiedHeatingSetpoint, WriteOccupiedCoolingSetpoint, WriteMinHeatSetpointLimit, WriteMaxHeatSetpointLimit, WriteMinCoolSetpointLimit, WriteMaxCoolSetpointLimit, WriteSystemMode, SetControlSequenceOfOperation, RaiseLowerSetpoint, ArmClock, OutOfBand, SeedEvents, Sweep, Timer, Deadline, FactoryReset, Hour}
 use Rattle.model.specs.Lists.{shortGapAfter}
 use Rattle.model.proofs.Logic.{clash, not-both, by-cond, by-refusal}
 use Rattle.model.proofs.Valid.{Valid, valid}
@@ -188,7 +189,7 @@ module _ (cfg : Config) (v : Valid cfg) (d : Readings) (r : Controller) (g : Goo
   cool-limit-gap a t k code = applied-gap cfg v d _ (cooling-pulled-gap cfg v d (withAttrs r a) t k)
 
   sound-gap : (k : Call) → GapOrAllowed k (stepSound cfg r d k)
-  unfolding stepSound writeOccupiedHeatingSetpoint writeOccupiedCoolingSetpoint writeMinHeatSetpointLimit writeMaxHeatSetpointLimit writeMinCoolSetpointLimit writeMaxCoolSetpointLimit writeSystemMode setControlSequenceOfOperation raiseLowerSetpoint armClock seedEvents sweep timer deadline applied askSweep started claimSetpoints factoryReset
+  unfolding stepSound writeOccupiedHeatingSetpoint writeOccupiedCoolingSetpoint writeMinHeatSetpointLimit writeMaxHeatSetpointLimit writeMinCoolSetpointLimit writeMaxCoolSetpointLimit writeSystemMode setControlSequenceOfOperation raiseLowerSetpoint armClock seedEvents sweep timer deadline applied askSweep started claimSetpoints factoryReset hour storeEntry
   sound-gap (WriteOccupiedHeatingSetpoint x) =
       guarded (WriteOccupiedHeatingSetpoint x) r _ _ refl refl (λ c l. heating-stored-gap cfg v d external x r (g .placed .limits) (not-false (inHeatLimits cfg (r .attrs .settings) x) (c .1 .0)))
   sound-gap (WriteOccupiedCoolingSetpoint x) =
@@ -209,6 +210,13 @@ module _ (cfg : Config) (v : Valid cfg) (d : Readings) (r : Controller) (g : Goo
   sound-gap Timer = guarded Timer r _ _ refl refl (λ c l. subst (λ (a : Attrs). GapKept cfg (a .settings)) (sym (events-attrs cfg d r)) (old l))
   sound-gap Deadline = old
   sound-gap FactoryReset = λ l. repair-settled cfg v (defaultsTaken cfg (r .attrs)) .gap
+  sound-gap (Hour h) = guarded (Hour h) r _ _ refl refl (λ c. hour-gap (acts millWeek h))
+    where
+      hour-gap : (t : Bool) → cond (eqb (cond t (applied cfg d (storeEntry cfg d (millWeek h) r)) (quiet 0 r) .number) 0) (cond t false b) b ≡ false → GapKept cfg (cond t (applied cfg d (storeEntry cfg d (millWeek h) r)) (quiet 0 r) .rec .attrs .settings)
+      hour-gap true l =
+          let s = r .attrs .settings in
+          heating-stored-gap cfg v d schedule _ r (g .placed .limits) (heat-clamped cfg s (widened (millWeek h)) (in-force cfg s v (g .placed .limits)))
+      hour-gap false l = old l
 
   pub step-gap : (k : Call) → GapOrAllowed k (step cfg r d k)
   unfolding step

@@ -7,7 +7,7 @@ use lib.IntN.{ℤ, _+ℤ_}
 use lib.Signed.{_≤ℤ_}
 use borrow.Author.Tests.{not-false}
 use Rattle.integers.specs.Linear.{linear}
-use Rattle.units.specs.Units.{plus, minus, above, below, within}
+use Rattle.units.specs.Units.{plus, minus, above, below, within, widened}
 use Rattle.units.specs.declared.Hundredths.{Hundredths}
 use Rattle.records.specs.Records.{withAttrs, setMinHeat, setMaxHeat, setMinCool, setMaxCool, setMode}
 use Rattle.model.specs.Answers.{Outcome, andThen, unchanged}
@@ -16,7 +16,7 @@ use Rattle.model.specs.Served.{auto, serves, hasHeatLimits, hasCoolLimit
 use Rattle.model.specs.Units.{deadBand}
 use Rattle.model.specs.Limits.{minHeatSetpoint, maxHeatSetpoint, minCoolSetpoint, maxCoolSetpoint, inHeatLimits, inCoolLimits}
 use Rattle.model.specs.Modes.{isSupportedSystemMode}
-use Rattle.model.specs.Attribution.{external, armedClock}
+use Rattle.model.specs.Attribution.{external, schedule, armedClock}
 use Rattle.model.specs.Validation.{accepted}
 use Rattle.model.specs.Sound.{soundHeatLimits, soundCoolLimits, soundHeating, soundCooling}
 use Rattle.model.specs.Orders.{askSweep}
@@ -24,6 +24,7 @@ use Rattle.model.specs.Writes.{minHeatRows, maxHeatRows, minCoolRows, ma
 use Rattle.model.specs.RaiseLower.{raiseLowerSetpoint}
 use Rattle.model.specs.Sweep.{sweep, timer, seedEvents, deadline}
 use Rattle.model.specs.FactoryReset.{defaultsTaken, factoryReset}
+use Rattle.model.specs.Week.{millWeek, acts, storeEntry, hour}
 use Rattle.model.specs.Step.{opened, step, stepSound}
 use Rattle.model.specs.Laws.{OpenedSound, StepSound}
 use Rattle.records.specs.declared.Config.{Config}
@@ -32,10 +33,10 @@ use Rattle.records.specs.declared.Attrs.{Attrs}
 use Rattle.records.specs.declared.Controller.{Controller}
 use Rattle.records.specs.declared.Readings.{Readings}
 use Rattle.records.specs.declared.Call.{Call}
-use Rattle.records.specs.declared.Call.the-variants.{WriteOccupiedHeatingSetpoint, WriteOccupiedCoolingSetpoint, WriteMinHeatSetpointLimit, WriteMaxHeatSetpointLimit, WriteMinCoolSetpointLimit, WriteMaxCoolSetpointLimit, WriteSystemMode, SetControlSequenceOfOperation, RaiseLowerSetpoint, ArmClock, OutOfBand, SeedEvents, Sweep, Timer, Deadline, FactoryReset}
-use Rattle.model.proofs.Logic.{neither, or-left, or-right, not-both, by-unless}
+use Rattle.records.specs.declared.Call.the-variants.{WriteOccupiedHeatingSetpoint, WriteOccupiedCoolingSetpoint, WriteMinHeatSetpointLimit, WriteMaxHeatSetpointLimit, WriteMinCoolSetpointLimit, WriteMaxCoolSetpointLimit, WriteSystemMode, SetControlSequenceOfOperation, RaiseLowerSetpoint, ArmClock, OutOfBand, SeedEvents, Sweep, Timer, Deadline, FactoryReset, Hour}
+use Rattle.model.proofs.Logic.{neither, or-left, or-right, not-both, by-cond, by-unless}
 use Rattle.model.proofs.Valid.{Valid, valid}
-use Rattle.model.proofs.Chain.{LimitTests, inside, apart, heat-ordered, is-heat-ordered, cool-ordered, is-cool-ordered, gaps, is-gaps}
+use Rattle.model.proofs.Chain.{LimitTests, in-force, heat-clamped, inside, apart, heat-ordered, is-heat-ordered, cool-ordered, is-cool-ordered, gaps, is-gaps}
 use Rattle.model.proofs.Repair.{repair-settled, repair-mode}
 use Rattle.model.proofs.Good.{Good, applied-good, armed-good, cooling-pulled, cooling-stored, events-good, good, heating-pulled, heating-stored, is-good, message-good, mode-stored, rest, sides-raised, sound-accepted, started-good, swept-good}
 
@@ -151,7 +152,7 @@ module _ (cfg : Config) (v : Valid cfg) (d : Readings) (r : Controller) (g : Goo
   cool-limit a code t h m = applied-good cfg v d _ (cooling-pulled cfg v d (withAttrs r a) (record { limits = t; mode = m; last = g .last }) h)
 
   sound-good : (k : Call) → GoodOutcome (stepSound cfg r d k)
-  unfolding stepSound writeOccupiedHeatingSetpoint writeOccupiedCoolingSetpoint writeMinHeatSetpointLimit writeMaxHeatSetpointLimit writeMinCoolSetpointLimit writeMaxCoolSetpointLimit writeSystemMode setControlSequenceOfOperation raiseLowerSetpoint armClock seedEvents sweep timer deadline soundHeating soundCooling inHeatLimits inCoolLimits minHeatSetpoint maxHeatSetpoint minCoolSetpoint maxCoolSetpoint factoryReset askSweep
+  unfolding stepSound writeOccupiedHeatingSetpoint writeOccupiedCoolingSetpoint writeMinHeatSetpointLimit writeMaxHeatSetpointLimit writeMinCoolSetpointLimit writeMaxCoolSetpointLimit writeSystemMode setControlSequenceOfOperation raiseLowerSetpoint armClock seedEvents sweep timer deadline soundHeating soundCooling inHeatLimits inCoolLimits minHeatSetpoint maxHeatSetpoint minCoolSetpoint maxCoolSetpoint factoryReset askSweep hour storeEntry
   sound-good (WriteOccupiedHeatingSetpoint x) =
       guarded _ _ (λ c. applied-good cfg v d _ (heating-stored cfg v d external x r (rest cfg r g) (g .placed .cooling) (not-false (inHeatLimits cfg (r .attrs .settings) x) (c .1 .0))))
   sound-good (WriteOccupiedCoolingSetpoint x) =
@@ -174,6 +175,11 @@ module _ (cfg : Config) (v : Valid cfg) (d : Readings) (r : Controller) (g : Goo
   sound-good FactoryReset =
       let a = defaultsTaken cfg (r .attrs) in
       record { placed = repair-settled cfg v a .placed; mode = repair-mode cfg v a; last = g .last }
+  sound-good (Hour h) =
+      let s = r .attrs .settings in
+      guarded _ _
+      (λ c. by-cond GoodOutcome (acts millWeek h) _ _
+      (λ e. applied-good cfg v d _ (heating-stored cfg v d schedule _ r (rest cfg r g) (g .placed .cooling) (heat-clamped cfg s (widened (millWeek h)) (in-force cfg s v (g .placed .limits))))) (λ e. g))
 
   pub step-good : (k : Call) → GoodOutcome (step cfg r d k)
   unfolding step

@@ -11,6 +11,7 @@ pub mod Chain
 pub mod Repair
 pub mod RepairedSettings
 pub mod FactoryReset
+pub mod Week
 pub mod LocalChange
 pub mod Good
 pub mod Kept

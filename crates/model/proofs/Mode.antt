@@ -21,6 +21,7 @@ use Rattle.model.specs.RaiseLower.{raiseHeating, raiseCooling, raiseSide
 use Rattle.model.specs.Messages.{outOfBandMessage, heatingMessage, coolingMessage, modeMessage, limitsMessage, limitsTaken}
 use Rattle.model.specs.Sweep.{sweep, timer, started, seedEvents, deadline}
 use Rattle.model.specs.FactoryReset.{defaultsTaken, factoryReset}
+use Rattle.model.specs.Week.{millWeek, acts, storeEntry, hour}
 use Rattle.model.specs.Step.{step, stepSound}
 use Rattle.records.specs.declared.Config.{Config}
 use Rattle.records.specs.declared.Settings.{Settings}
@@ -30,7 +31,7 @@ use Rattle.records.specs.declared.Readings.{Readings}
 use Rattle.records.specs.declared.OutOfBandMessage.{OutOfBandMessage}
 use Rattle.records.specs.declared.OutOfBandMessage.the-variants.{LocalTemperature, RunningState, Update, OccupiedHeatingSetpoint, OccupiedCoolingSetpoint, SystemMode, SetpointLimits}
 use Rattle.records.specs.declared.Call.{Call}
-use Rattle.records.specs.declared.Call.the-variants.{WriteOccupiedHeatingSetpoint, WriteOccupiedCoolingSetpoint, WriteMinHeatSetpointLimit, WriteMaxHeatSetpointLimit, WriteMinCoolSetpointLimit, WriteMaxCoolSetpointLimit, WriteSystemMode, SetControlSequenceOfOperation, RaiseLowerSetpoint, ArmClock, OutOfBand, SeedEvents, Sweep, Timer, Deadline, FactoryReset}
+use Rattle.records.specs.declared.Call.the-variants.{WriteOccupiedHeatingSetpoint, WriteOccupiedCoolingSetpoint, WriteMinHeatSetpointLimit, WriteMaxHeatSetpointLimit, WriteMinCoolSetpointLimit, WriteMaxCoolSetpointLimit, WriteSystemMode, SetControlSequenceOfOperation, RaiseLowerSetpoint, ArmClock, OutOfBand, SeedEvents, Sweep, Timer, Deadline, FactoryReset, Hour}
 use Rattle.model.proofs.Logic.{by-cond, by-unless}
 use Rattle.model.proofs.Valid.{Valid}
 use Rattle.model.proofs.Repair.{by-formula}
@@ -62,6 +63,7 @@ modeAfter cfg m Sweep = m
 modeAfter cfg m Timer = m
 modeAfter cfg m Deadline = m
 modeAfter cfg m FactoryReset = supportedMode cfg (cfg .defaults .mode)
+modeAfter cfg m (Hour h) = m
 
 -- a supported mode stays through a repair
 mode-repaired : (cfg : Config) (v : Valid cfg) (a : Attrs) → isSupportedSystemMode cfg (a .settings .mode) ≡ true → repaired cfg a .settings .mode ≡ a .settings .mode
@@ -136,7 +138,7 @@ module _ (cfg : Config) (v : Valid cfg) (d : Readings) (r : Controller) (g : Goo
   message-mode (SetpointLimits x y z w) = mode-repaired cfg v (limitsTaken cfg (r .attrs) x y z w) (g .mode)
 
   sound-mode : (k : Call) → Moded (modeAfter cfg mode k) (stepSound cfg r d k)
-  unfolding stepSound writeOccupiedHeatingSetpoint writeOccupiedCoolingSetpoint writeMinHeatSetpointLimit writeMaxHeatSetpointLimit writeMinCoolSetpointLimit writeMaxCoolSetpointLimit writeSystemMode setControlSequenceOfOperation raiseLowerSetpoint armClock seedEvents sweep timer deadline applied askSweep storeHeatingSetpoint storeCoolingSetpoint started claimSetpoints armedClock factoryReset repairedSettings
+  unfolding stepSound writeOccupiedHeatingSetpoint writeOccupiedCoolingSetpoint writeMinHeatSetpointLimit writeMaxHeatSetpointLimit writeMinCoolSetpointLimit writeMaxCoolSetpointLimit writeSystemMode setControlSequenceOfOperation raiseLowerSetpoint armClock seedEvents sweep timer deadline applied askSweep storeHeatingSetpoint storeCoolingSetpoint started claimSetpoints armedClock factoryReset repairedSettings hour storeEntry
   sound-mode (WriteOccupiedHeatingSetpoint x) = guarded _ _ refl
   sound-mode (WriteOccupiedCoolingSetpoint x) = guarded _ _ refl
   sound-mode (WriteMinHeatSetpointLimit x) = guarded _ _ (pull-heat-mode cfg d (withAttrs r (setMinHeat (r .attrs) x)))
@@ -154,6 +156,7 @@ module _ (cfg : Config) (v : Valid cfg) (d : Readings) (r : Controller) (g : Goo
   sound-mode Timer = guarded _ _ (ap (λ (a : Attrs). a .settings .mode) (events-attrs cfg d r))
   sound-mode Deadline = refl
   sound-mode FactoryReset = ap (λ (s : Settings). s .mode) (by-formula cfg v (defaultsTaken cfg (r .attrs)))
+  sound-mode (Hour h) = guarded _ _ (by-cond (Moded mode) (acts millWeek h) _ _ (λ e. refl) (λ e. refl))
 
   pub step-mode : (k : Call) → Moded (modeAfter cfg mode k) (step cfg r d k)
   step-mode k = subst (Moded (modeAfter cfg mode k)) (sym (sound-step cfg r d k s)) (sound-mode k)

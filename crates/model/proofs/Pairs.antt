@@ -4,14 +4,15 @@ use mathlib.Core.Bool.{true, false, not}
 use mathlib.Core.List.{List, [], _∷_}
 use Prim.Native.Nat.{ℕ}
 use borrow.Author.Tests.{not-false}
+use Rattle.units.specs.Units.{widened}
 use Rattle.units.specs.declared.Hundredths.{Hundredths}
 use Rattle.units.specs.declared.Tenths.{Tenths}
 use Rattle.records.specs.Records.{withAttrs, setMinHeat, setMaxHeat, setMinCool, setMaxCool}
 use Rattle.model.specs.Answers.{Outcome, quiet, andThen}
 use Rattle.model.specs.Refusals.{Row, row, unless, Clear}
 use Rattle.model.specs.Served.{heats, cools, serves}
-use Rattle.model.specs.Limits.{EqualLimits, inHeatLimits, inCoolLimits}
-use Rattle.model.specs.Attribution.{external, armedClock, claimSetpoints}
+use Rattle.model.specs.Limits.{EqualLimits, inHeatLimits, inCoolLimits, clampHeatSetpoint}
+use Rattle.model.specs.Attribution.{external, schedule, armedClock, claimSetpoints}
 use Rattle.model.specs.Validation.{accepted}
 use Rattle.model.specs.Repair.{repaired}
 use Rattle.model.specs.Sound.{sound, unsound}
@@ -21,6 +22,7 @@ use Rattle.model.specs.RaiseLower.{namesAbsentSide, raiseSides, raiseLow
 use Rattle.model.specs.Messages.{outOfBandMessage, heatingMessage, coolingMessage, modeMessage, limitsMessage, limitsTaken}
 use Rattle.model.specs.Sweep.{sweep, timer, started, seedEvents, deadline}
 use Rattle.model.specs.FactoryReset.{defaultsTaken, factoryReset}
+use Rattle.model.specs.Week.{millWeek, acts, storeEntry, hour}
 use Rattle.model.specs.Step.{step, stepSound}
 use Rattle.records.specs.declared.Config.{Config}
 use Rattle.records.specs.declared.Attrs.{Attrs}
@@ -29,8 +31,8 @@ use Rattle.records.specs.declared.Readings.{Readings}
 use Rattle.records.specs.declared.OutOfBandMessage.{OutOfBandMessage}
 use Rattle.records.specs.declared.OutOfBandMessage.the-variants.{LocalTemperature, RunningState, Update, OccupiedHeatingSetpoint, OccupiedCoolingSetpoint, SystemMode, SetpointLimits}
 use Rattle.records.specs.declared.Call.{Call}
-use Rattle.records.specs.declared.Call.the-variants.{WriteOccupiedHeatingSetpoint, WriteOccupiedCoolingSetpoint, WriteMinHeatSetpointLimit, WriteMaxHeatSetpointLimit, WriteMinCoolSetpointLimit, WriteMaxCoolSetpointLimit, WriteSystemMode, SetControlSequenceOfOperation, RaiseLowerSetpoint, ArmClock, OutOfBand, SeedEvents, Sweep, Timer, Deadline, FactoryReset}
-use Rattle.model.proofs.Logic.{or-left, or-right}
+use Rattle.records.specs.declared.Call.the-variants.{WriteOccupiedHeatingSetpoint, WriteOccupiedCoolingSetpoint, WriteMinHeatSetpointLimit, WriteMaxHeatSetpointLimit, WriteMinCoolSetpointLimit, WriteMaxCoolSetpointLimit, WriteSystemMode, SetControlSequenceOfOperation, RaiseLowerSetpoint, ArmClock, OutOfBand, SeedEvents, Sweep, Timer, Deadline, FactoryReset, Hour}
+use Rattle.model.proofs.Logic.{or-left, or-right, both-cond}
 use Rattle.model.proofs.Valid.{Valid, valid}
 use Rattle.model.proofs.Good.{Good, is-good}
 use Rattle.model.proofs.Kept.{heat-served, cool-served}
@@ -182,10 +184,10 @@ module _ (cfg : Config) (ok : accepted cfg ≡ true) (d : Readings) (q r : Contr
       record { number = refl; limits = chained (raise-limits cfg d mode a x) (raise-limits cfg d mode a y) l; points = λ p. raise-points cfg d x y l p v mode a z }
 
   sound-both : (k : Call) → Both (stepSound cfg q d k) (stepSound cfg r d k)
-  unfolding stepSound writeOccupiedHeatingSetpoint writeOccupiedCoolingSetpoint writeMinHeatSetpointLimit writeMaxHeatSetpointLimit writeMinCoolSetpointLimit writeMaxCoolSetpointLimit writeSystemMode setControlSequenceOfOperation raiseLowerSetpoint armClock seedEvents sweep timer deadline applied askSweep started claimSetpoints factoryReset
+  unfolding stepSound writeOccupiedHeatingSetpoint writeOccupiedCoolingSetpoint writeMinHeatSetpointLimit writeMaxHeatSetpointLimit writeMinCoolSetpointLimit writeMaxCoolSetpointLimit writeSystemMode setControlSequenceOfOperation raiseLowerSetpoint armClock seedEvents sweep timer deadline applied askSweep started claimSetpoints factoryReset hour storeEntry
   sound-both (WriteOccupiedHeatingSetpoint x) =
       guarded _ _ _ _ (heat-rows x)
-      (λ c. record { number = refl; limits = chained (heating-limits cfg d external x q) (heating-limits cfg d external x r) l; points = λ p. heating-points cfg d q r l x x refl (p .cooling) })
+      (λ c. record { number = refl; limits = chained (heating-limits cfg d external x q) (heating-limits cfg d external x r) l; points = λ p. heating-points cfg d q r l external x x refl (p .cooling) })
   sound-both (WriteOccupiedCoolingSetpoint x) =
       guarded _ _ _ _ (cool-rows x)
       (λ c. record { number = refl; limits = chained (cooling-limits cfg d external x q) (cooling-limits cfg d external x r) l; points = λ p. cooling-points cfg d q r l x x refl (p .heating) })
@@ -223,6 +225,14 @@ module _ (cfg : Config) (ok : accepted cfg ≡ true) (d : Readings) (q r : Contr
   sound-both Timer = guarded _ _ _ _ refl (λ c. kept-both _ _ refl (events-attrs cfg d q) (events-attrs cfg d r))
   sound-both Deadline = record { number = refl; limits = l; points = λ p. p }
   sound-both FactoryReset = record { number = refl; limits = reset-limits cfg v (q .attrs) (r .attrs); points = λ p. reset-points cfg v (q .attrs) (r .attrs) }
+  sound-both (Hour h) =
+      let e = millWeek h in
+      let x = clampHeatSetpoint cfg (q .attrs .settings) (widened e) in
+      let y = clampHeatSetpoint cfg (r .attrs .settings) (widened e) in
+      guarded _ _ _ _ refl
+      (λ c. both-cond Both (acts millWeek h) _ _ _ _
+      (λ t. record { number = refl; limits = chained (heating-limits cfg d schedule x q) (heating-limits cfg d schedule y r) l; points = λ p. heating-points cfg d q r l schedule x y (same-clamp-heat cfg (q .attrs .settings) (r .attrs .settings) l e e refl) (p .cooling) })
+      (λ t. refused 0))
 
   pub step-both : (k : Call) → Both (step cfg q d k) (step cfg r d k)
   unfolding step

@@ -1,5 +1,5 @@
 -- Each write is its plan carried out.
-use mathlib.Core.Path.{_≡_, refl, sym, _∙_, ap}
+use mathlib.Core.Path.{_≡_, refl, sym, _∙_, ap, subst}
 use mathlib.Core.Bool.{Bool, true, false, not, _&&_, _||_, cond}
 use mathlib.Core.List.{List, [], _∷_, _++_, append-nil}
 use Prim.Native.Nat.{ℕ}
@@ -15,13 +15,14 @@ use Rattle.records.specs.Records.{sameSettings, withAttrs, withHeating, withCoo
 use Rattle.model.specs.Answers.{Outcome, Stage, onlyIf, quiet, andThen, unchanged}
 use Rattle.model.specs.Refusals.{Row, unless, numbered}
 use Rattle.model.specs.Limits.{minHeatSetpoint, maxHeatSetpoint, minCoolSetpoint, maxCoolSetpoint, inHeatLimits, inCoolLimits, clampHeatSetpoint, clampCoolSetpoint}
-use Rattle.model.specs.Attribution.{external, armedClock, claimSetpoints}
+use Rattle.model.specs.Attribution.{external, schedule, armedClock, claimSetpoints}
 use Rattle.model.specs.Orders.{askSweep}
 use Rattle.model.specs.Writes.{applied, thenNoticed, tooNearCooling, tooNearHeating, coolingWithGap, heatingWithGap, recordedIf, storeHeatingSetpoint, storeCoolingSetpoint, pullHeating, pullCooling, writeOccupiedHeatingSetpoint, writeOccupiedCoolingSetpoint, writeMinHeatSetpointLimit, writeMaxHeatSetpointLimit, writeMinCoolSetpointLimit, writeMaxCoolSetpointLimit, writeSystemMode}
 use Rattle.model.specs.RaiseBoth.{heatingTarget, coolingTarget, raiseBoth}
 use Rattle.model.specs.RaiseLower.{raiseHeating, raiseCooling, raiseSides, raiseRows, raiseLowerSetpoint}
+use Rattle.model.specs.Week.{acts, hourRows, storeEntry, hour, millWeek}
 use Rattle.model.specs.Step.{stepSound}
-use Rattle.model.specs.Plans.{refusal, settingAlone, heatingTo, coolingTo, bothTo, planUnless, heatingPulled, coolingPulled, planHeatingSetpoint, planCoolingSetpoint, planMinHeatLimit, planMaxHeatLimit, planMinCoolLimit, planMaxCoolLimit, planSystemMode, planSides, removing, arming, planRaiseLower, planned, settingStored, anyMoved, movesRecorded, limitNotices, modeNotices, moveNotices, moved, performed, carriedOut, HeatingSetpointCarried, CoolingSetpointCarried, MinHeatLimitCarried, MaxHeatLimitCarried, MinCoolLimitCarried, MaxCoolLimitCarried, SystemModeCarried, RaiseLowerCarried, PlannedCarried}
+use Rattle.model.specs.Plans.{refusal, settingAlone, heatingTo, coolingTo, bothTo, planUnless, heatingPulled, coolingPulled, planHeatingSetpoint, planCoolingSetpoint, planMinHeatLimit, planMaxHeatLimit, planMinCoolLimit, planMaxCoolLimit, planSystemMode, planSides, removing, arming, planRaiseLower, fromSource, plannedUnless, planHour, planned, settingStored, anyMoved, movesRecorded, limitNotices, modeNotices, moveNotices, moved, performed, carriedOut, HeatingSetpointCarried, CoolingSetpointCarried, MinHeatLimitCarried, MaxHeatLimitCarried, MinCoolLimitCarried, MaxCoolLimitCarried, SystemModeCarried, RaiseLowerCarried, DoneAsPlanned, HourCarried, PlannedCarried}
 use Rattle.records.specs.declared.Config.{Config}
 use Rattle.records.specs.declared.Settings.{Settings}
 use Rattle.records.specs.declared.Attrs.{Attrs}
@@ -33,7 +34,7 @@ use Rattle.records.specs.declared.Stored.{Stored}
 use Rattle.records.specs.declared.Stored.the-variants.{Nothing, MinHeat, MaxHeat, MinCool, MaxCool, Mode}
 use Rattle.records.specs.declared.Planned.{Planned}
 use Rattle.records.specs.declared.Planned.the-variants.{NoWrite, Write}
-use Rattle.records.specs.declared.Call.the-variants.{WriteOccupiedHeatingSetpoint, WriteOccupiedCoolingSetpoint, WriteMinHeatSetpointLimit, WriteMaxHeatSetpointLimit, WriteMinCoolSetpointLimit, WriteMaxCoolSetpointLimit, WriteSystemMode, SetControlSequenceOfOperation, RaiseLowerSetpoint, ArmClock, OutOfBand, SeedEvents, Sweep, Timer, Deadline, FactoryReset}
+use Rattle.records.specs.declared.Call.the-variants.{WriteOccupiedHeatingSetpoint, WriteOccupiedCoolingSetpoint, WriteMinHeatSetpointLimit, WriteMaxHeatSetpointLimit, WriteMinCoolSetpointLimit, WriteMaxCoolSetpointLimit, WriteSystemMode, SetControlSequenceOfOperation, RaiseLowerSetpoint, ArmClock, OutOfBand, SeedEvents, Sweep, Timer, Deadline, FactoryReset, Hour}
 use Rattle.model.proofs.Logic.{both, clash, by-cond, both-cond}
 use Rattle.model.proofs.RepairedSettings.{or-false, stored-same}
 
@@ -84,6 +85,15 @@ by-plan cfg d r (w ∷ ws) s p o m e =
     go true n f = simp n
     go false n f = f
 
+-- the same where a call may be no write
+by-planned : (cfg : Config) (d : Readings) (r : Controller) (ws : List Row) (s : Settings) (x : Planned) (o : Outcome) → numbered ws ≡ true → DoneAsPlanned cfg d r x o → DoneAsPlanned cfg d r (plannedUnless ws s x) (unless ws r o)
+unfolding plannedUnless unless carriedOut
+by-planned cfg d r [] s x o m e = e
+by-planned cfg d r (w ∷ ws) s x o m e =
+    let b = both (ltb 0 (w .number)) (numbered ws) m in
+    let n = ne-eqb (w .number) 0 (λ z. omega (arith, ltb-true 0 (w .number) (b .0))) in
+    both-cond (DoneAsPlanned cfg d r) (w .cause) _ _ _ _ (λ t. simp n) (λ t. by-planned cfg d r ws s x o (b .1) e)
+
 -- a plan that arms is carried out on the armed record
 armed-plan : (cfg : Config) (d : Readings) (r : Controller) (p : Plan) → p .arms ≡ false → carriedOut cfg d r (arming p) ≡ carriedOut cfg d (armedClock cfg d r) p
 unfolding carriedOut performed moved
@@ -106,9 +116,9 @@ module _ (cfg : Config) (d : Readings) (l : List ℕ) (r : Controller) (x : Stor
   unfolding moved applied anyMoved movesRecorded recordedIf moveNotices onlyIf
   neither-moved = simp (self (s .heating), self (s .cooling), or-false)
 
-  heating-moved : (v : Hundredths) → moved cfg d l r (heatingTo s x v) ≡ after (storeHeatingSetpoint cfg d external v r)
+  heating-moved : (source : ℕ) (v : Hundredths) → moved cfg d l r (fromSource source (heatingTo s x v)) ≡ after (storeHeatingSetpoint cfg d source v r)
   unfolding moved applied askSweep storeHeatingSetpoint claimSetpoints recordedIf anyMoved movesRecorded moveNotices onlyIf coolingWithGap tooNearCooling clampCoolSetpoint minCoolSetpoint maxCoolSetpoint
-  heating-moved v = simp (self (s .cooling), self v, same-heating s v, same-cooling (withHeating s v), append-nil, or-false, or-assoc)
+  heating-moved source v = simp (self (s .cooling), self v, same-heating s v, same-cooling (withHeating s v), append-nil, or-false, or-assoc)
 
   cooling-moved : (v : Hundredths) → moved cfg d l r (coolingTo s x v) ≡ after (storeCoolingSetpoint cfg d external v r)
   unfolding moved applied askSweep storeCoolingSetpoint claimSetpoints recordedIf anyMoved movesRecorded moveNotices onlyIf heatingWithGap tooNearHeating clampHeatSetpoint minHeatSetpoint maxHeatSetpoint
@@ -135,9 +145,9 @@ module _ (cfg : Config) (d : Readings) (r : Controller) where
   nothing-stored : (p : Plan) → moved cfg d [] (withAttrs r (settingStored (r .attrs) Nothing)) p ≡ moved cfg d [] r p
   nothing-stored p = ap (λ (a : Attrs). moved cfg d [] (withAttrs r a) p) (stored-same (r .attrs))
 
-  heating-carried : (v : Hundredths) → Carried (heatingTo (r .attrs .settings) Nothing v) (storeHeatingSetpoint cfg d external v r)
+  heating-carried : (source : ℕ) (v : Hundredths) → Carried (fromSource source (heatingTo (r .attrs .settings) Nothing v)) (storeHeatingSetpoint cfg d source v r)
   unfolding carriedOut performed
-  heating-carried v = unmoded _ refl _ ∙ nothing-stored _ ∙ heating-moved cfg d [] r Nothing v
+  heating-carried source v = unmoded _ refl _ ∙ nothing-stored _ ∙ heating-moved cfg d [] r Nothing source v
 
   cooling-carried : (v : Hundredths) → Carried (coolingTo (r .attrs .settings) Nothing v) (storeCoolingSetpoint cfg d external v r)
   unfolding carriedOut performed
@@ -155,7 +165,7 @@ module _ (cfg : Config) (d : Readings) (r : Controller) where
   sides-carried : (mode : ℕ) (amount : Tenths) → Carried (planSides cfg (r .attrs .settings) mode amount) (raiseSides cfg d mode amount r)
   unfolding planSides raiseSides raiseHeating raiseCooling
   sides-carried mode amount =
-      both-cond Carried (eqb mode 0) _ _ _ _ (λ e. removing-carried _ _ ∙ heating-carried _) (λ e. both-cond Carried (eqb mode 1) _ _ _ _ (λ f. removing-carried _ _ ∙ cooling-carried _) (λ f. removing-carried _ _ ∙ both-carried amount))
+      both-cond Carried (eqb mode 0) _ _ _ _ (λ e. removing-carried _ _ ∙ heating-carried external _) (λ e. both-cond Carried (eqb mode 1) _ _ _ _ (λ f. removing-carried _ _ ∙ cooling-carried _) (λ f. removing-carried _ _ ∙ both-carried amount))
 
   -- a limit is stored and noticed, then pulls
   module _ (x : Stored) (e : modeNotices cfg x ≡ []) where
@@ -166,7 +176,7 @@ module _ (cfg : Config) (d : Readings) (r : Controller) where
     unfolding heatingPulled pullHeating carriedOut performed
     heat-limit-carried =
         both-cond (λ (p : Plan) (q : Stage). Carried p (record { rec = q .rec; notices = stored .notices ++ q .notices })) (inHeatLimits cfg (stored .rec .attrs .settings) (stored .rec .attrs .settings .heating)) _ _ _ _
-        (λ t. unmoded _ e _ ∙ neither-moved cfg d (stored .notices) (stored .rec) x) (λ t. unmoded _ e _ ∙ heating-moved cfg d (stored .notices) (stored .rec) x _)
+        (λ t. unmoded _ e _ ∙ neither-moved cfg d (stored .notices) (stored .rec) x) (λ t. unmoded _ e _ ∙ heating-moved cfg d (stored .notices) (stored .rec) x external _)
 
     cool-limit-carried : Carried (coolingPulled cfg (stored .rec .attrs .settings) x) (andThen stored (pullCooling cfg d))
     unfolding coolingPulled pullCooling carriedOut performed
@@ -180,7 +190,7 @@ module _ (cfg : Config) (d : Readings) (r : Controller) where
 
 pub heating-setpoint-carried : HeatingSetpointCarried
 unfolding writeOccupiedHeatingSetpoint planHeatingSetpoint
-heating-setpoint-carried cfg r d v = sym (by-plan cfg d r _ _ _ _ refl (heating-carried cfg d r v))
+heating-setpoint-carried cfg r d v = sym (by-plan cfg d r _ _ _ _ refl (heating-carried cfg d r external v))
 
 pub cooling-setpoint-carried : CoolingSetpointCarried
 unfolding writeOccupiedCoolingSetpoint planCoolingSetpoint
@@ -218,6 +228,12 @@ raise-lower-carried cfg r d mode amount =
     let p = planSides cfg s mode amount in
     sym (armed-plan cfg d r (planUnless ws s p) (unarmed ws s p (sides-unarmed cfg s mode amount)) ∙ by-plan cfg d (armedClock cfg d r) ws s p _ refl (sides-carried cfg d (armedClock cfg d r) mode amount))
 
+pub hour-carried : HourCarried
+unfolding hour planHour storeEntry
+hour-carried w cfg r d h =
+    by-planned cfg d r (hourRows cfg h) _ _ _ refl
+    (both-cond (DoneAsPlanned cfg d r) (acts w h) _ _ _ _ (λ t. sym (heating-carried cfg d r schedule _)) (λ t. refl))
+
 pub planned-carried : PlannedCarried
 unfolding stepSound planned
 planned-carried cfg r d (WriteOccupiedHeatingSetpoint v) p e = heating-setpoint-carried cfg r d v ∙ ap (carriedOut cfg d r) (write-of e)
@@ -236,3 +252,4 @@ planned-carried cfg r d Sweep p e = absurd (no-write e)
 planned-carried cfg r d Timer p e = absurd (no-write e)
 planned-carried cfg r d Deadline p e = absurd (no-write e)
 planned-carried cfg r d FactoryReset p e = absurd (no-write e)
+planned-carried cfg r d (Hour h) p e = subst (λ (x : Planned). DoneAsPlanned cfg d r x (hour millWeek cfg r d h)) e (hour-carried millWeek cfg r d h)

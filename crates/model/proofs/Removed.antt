@@ -28,10 +28,11 @@ use Rattle.model.specs.RaiseBoth.{heatingTarget, coolingTarget}
 use Rattle.model.specs.RaiseLower.{raiseRows}
 use Rattle.model.specs.Messages.{heatingMessage, coolingMessage, limitsMessage}
 use Rattle.model.specs.FactoryReset.{factoryReset}
+use Rattle.model.specs.Week.{Week, acts, hourRows, millWeek}
 use Rattle.model.specs.Step.{step, stepSound}
 use Rattle.model.specs.Plant.{noReadings}
 use Rattle.model.specs.Removed.{raiseRemoved, removedWhenDone, removed, RefusedRemovesNothing, CutsNothing, RepairPushCutsNothing}
-use Rattle.model.specs.Plans.{refusal, planUnless, heatingPulled, coolingPulled, planHeatingSetpoint, planCoolingSetpoint, planMinHeatLimit, planMaxHeatLimit, planMinCoolLimit, planMaxCoolLimit, planSystemMode, planSides, planRaiseLower, planned, withStored, moved, performed, carriedOut, planRemoved, pushedFrom, PushCutsNothing, PlannedRemoved, UnplannedRemoved, GapPushCutsNothing}
+use Rattle.model.specs.Plans.{refusal, planUnless, heatingPulled, coolingPulled, planHeatingSetpoint, planCoolingSetpoint, planMinHeatLimit, planMaxHeatLimit, planMinCoolLimit, planMaxCoolLimit, planSystemMode, planSides, planRaiseLower, entryTo, plannedUnless, planHour, planned, withStored, moved, performed, carriedOut, planRemoved, pushedFrom, PushCutsNothing, PlannedRemoved, UnplannedRemoved, GapPushCutsNothing}
 use Rattle.records.specs.declared.Config.{Config}
 use Rattle.records.specs.declared.Settings.{Settings}
 use Rattle.records.specs.declared.Attrs.{Attrs}
@@ -42,10 +43,11 @@ use Rattle.records.specs.declared.Plan.{Plan}
 use Rattle.records.specs.declared.Stored.{Stored}
 use Rattle.records.specs.declared.Stored.the-variants.{Nothing, MinHeat, MaxHeat, MinCool, MaxCool}
 use Rattle.records.specs.declared.Sides.the-variants.{Heating, Cooling}
+use Rattle.records.specs.declared.Planned.{Planned}
 use Rattle.records.specs.declared.Planned.the-variants.{NoWrite, Write}
 use Rattle.records.specs.declared.OutOfBandMessage.the-variants.{LocalTemperature, RunningState, Update, OccupiedHeatingSetpoint, OccupiedCoolingSetpoint, SystemMode, SetpointLimits}
 use Rattle.records.specs.declared.Call.{Call}
-use Rattle.records.specs.declared.Call.the-variants.{WriteOccupiedHeatingSetpoint, WriteOccupiedCoolingSetpoint, WriteMinHeatSetpointLimit, WriteMaxHeatSetpointLimit, WriteMinCoolSetpointLimit, WriteMaxCoolSetpointLimit, WriteSystemMode, SetControlSequenceOfOperation, RaiseLowerSetpoint, ArmClock, OutOfBand, SeedEvents, Sweep, Timer, Deadline, FactoryReset}
+use Rattle.records.specs.declared.Call.the-variants.{WriteOccupiedHeatingSetpoint, WriteOccupiedCoolingSetpoint, WriteMinHeatSetpointLimit, WriteMaxHeatSetpointLimit, WriteMinCoolSetpointLimit, WriteMaxCoolSetpointLimit, WriteSystemMode, SetControlSequenceOfOperation, RaiseLowerSetpoint, ArmClock, OutOfBand, SeedEvents, Sweep, Timer, Deadline, FactoryReset, Hour}
 use Rattle.model.proofs.Logic.{both, clash, by-cond, both-cond}
 use Rattle.model.proofs.Valid.{Valid, valid}
 use Rattle.model.proofs.Chain.{InForce, LimitTests, Placed, in-force, heating-between, cooling-between, heat-clamped, cool-clamped}
@@ -54,6 +56,20 @@ use Rattle.model.proofs.Refused.{sound-step, unsound-refused}
 use Rattle.model.proofs.Plans.{write-of, no-write, planned-carried}
 use Rattle.model.proofs.Good.{Good, good, sound-accepted, points-placed, heating-inside, cooling-inside, raised-heat, raised-cool, heat-target, cool-target}
 use Rattle.model.proofs.Kept.{min-heat-tests, max-heat-tests, min-cool-tests, max-cool-tests}
+
+-- a fact about the plan, where there is one
+abbrev OfWrite {ℓ} : (Plan → Type ℓ) → Planned → Type ℓ
+OfWrite P NoWrite = Unit
+OfWrite P (Write p) = P p
+
+-- every write that an hour of any week can plan
+by-hour {ℓ} : (P : Plan → Type ℓ) (w : Week) (cfg : Config) (s : Settings) (h : ℕ) → ((n : ℕ) → P (refusal s n)) → P (entryTo cfg s (w h)) → (p : Plan) → planHour w cfg s h ≡ Write p → P p
+unfolding planHour plannedUnless
+by-hour P w cfg s h f g p e = subst (OfWrite P) e (refused-too (hourRows cfg h) _ (by-cond (OfWrite P) (acts w h) _ _ (λ t. g) (λ t. tt)))
+  where
+    refused-too : (ws : List Row) (x : Planned) → OfWrite P x → OfWrite P (plannedUnless ws s x)
+    refused-too [] x t = t
+    refused-too (w ∷ ws) x t = by-cond (OfWrite P) (w .cause) _ _ (λ e. f (w .number)) (λ e. refused-too ws x t)
 
 either : (b : Bool) → cond b nothingRemoved nothingRemoved ≡ nothingRemoved
 either true = refl
@@ -133,6 +149,7 @@ done-removed cfg a Sweep p e n = absurd (no-write e)
 done-removed cfg a Timer p e n = absurd (no-write e)
 done-removed cfg a Deadline p e n = absurd (no-write e)
 done-removed cfg a FactoryReset p e n = absurd (no-write e)
+done-removed cfg a (Hour h) p e n = by-hour RemovesNothing millWeek cfg (a .settings) h (λ m. refl) refl p e
 
 pub planned-removed : PlannedRemoved
 unfolding removed planRemoved
@@ -164,6 +181,7 @@ unplanned-removed cfg r d Sweep h e = either (eqb (step cfg r d Sweep .number) 0
 unplanned-removed cfg r d Timer h e = either (eqb (step cfg r d Timer .number) 0)
 unplanned-removed cfg r d Deadline h e = either (eqb (step cfg r d Deadline .number) 0)
 unplanned-removed cfg r d FactoryReset h e = simp (sound-step cfg r d FactoryReset h)
+unplanned-removed cfg r d (Hour n) h e = either (eqb (step cfg r d (Hour n) .number) 0)
 
 abbrev wide : ℤ → Wide
 wide z = record { 0 = z }
@@ -286,6 +304,10 @@ module _ (cfg : Config) (v : Valid cfg) (r : Controller) (g : Good cfg r) where
   plan-pushes Timer p e = absurd (no-write e)
   plan-pushes Deadline p e = absurd (no-write e)
   plan-pushes FactoryReset p e = absurd (no-write e)
+  plan-pushes (Hour h) p e =
+      let l = g .placed .limits in
+      by-hour Pushes millWeek cfg s h (λ n. tt)
+      (cooling-push cfg v _ (points-placed cfg v s l _ (s .cooling) (λ z. heat-clamped cfg s (widened (millWeek h)) (in-force cfg s v l)) (cooling-inside cfg s (g .placed .cooling)))) p e
 
 pub gap-push-cuts-nothing : GapPushCutsNothing
 gap-push-cuts-nothing cfg r k p h e = plan-pushes cfg (valid cfg (sound-accepted cfg r h)) r (good cfg r h) k p e

@@ -15,9 +15,12 @@ use Rattle.records.specs.declared.SetpointChangeState.{SetpointChangeState}
 use Rattle.records.specs.declared.Controller.{Controller}
 use Rattle.records.specs.declared.Readings.{Readings}
 
--- sources: Manual 0, External 2
+-- sources: Manual 0, Schedule 1 (C-15), External 2
 abbrev pub manual : ℕ
 manual = 0
+
+abbrev pub schedule : ℕ
+schedule = 1
 
 abbrev pub external : ℕ
 external = 2

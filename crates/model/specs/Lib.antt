@@ -18,6 +18,7 @@ pub mod Messages
 pub mod LocalChange
 pub mod Sweep
 pub mod FactoryReset
+pub mod Week
 pub mod Causes
 pub mod Step
 pub mod Removed

@@ -1,14 +1,15 @@
 -- Lists of calls, and what of the band each call allows.
-use mathlib.Core.Bool.{Bool, true, false}
+use mathlib.Core.Bool.{Bool, true, false, cond}
 use mathlib.Core.List.{List, [], _∷_}
 use Prim.Native.Nat.{ℕ}
+use Rattle.model.specs.Week.{acts, millWeek}
 use Rattle.model.specs.Step.{step}
 use Rattle.records.specs.declared.Config.{Config}
 use Rattle.records.specs.declared.Controller.{Controller}
 use Rattle.records.specs.declared.Readings.{Readings}
 use Rattle.records.specs.declared.OutOfBandMessage.the-variants.{LocalTemperature, RunningState, Update, OccupiedHeatingSetpoint, OccupiedCoolingSetpoint, SystemMode, SetpointLimits}
 use Rattle.records.specs.declared.Call.{Call}
-use Rattle.records.specs.declared.Call.the-variants.{WriteOccupiedHeatingSetpoint, WriteOccupiedCoolingSetpoint, WriteMinHeatSetpointLimit, WriteMaxHeatSetpointLimit, WriteMinCoolSetpointLimit, WriteMaxCoolSetpointLimit, WriteSystemMode, SetControlSequenceOfOperation, RaiseLowerSetpoint, ArmClock, OutOfBand, SeedEvents, Sweep, Timer, Deadline, FactoryReset}
+use Rattle.records.specs.declared.Call.the-variants.{WriteOccupiedHeatingSetpoint, WriteOccupiedCoolingSetpoint, WriteMinHeatSetpointLimit, WriteMaxHeatSetpointLimit, WriteMinCoolSetpointLimit, WriteMaxCoolSetpointLimit, WriteSystemMode, SetControlSequenceOfOperation, RaiseLowerSetpoint, ArmClock, OutOfBand, SeedEvents, Sweep, Timer, Deadline, FactoryReset, Hour}
 
 -- an entry of a list: any call, with the readings handed in
 pub record Entry : Type 0 where
@@ -33,7 +34,8 @@ unfoldable pub numbers : Config → Controller → List Entry → List ℕ
 numbers cfg r [] = []
 numbers cfg r (e ∷ l) = number cfg r e ∷ numbers cfg (after cfg r e) l
 
--- Whether a short gap is allowed after an accepted call, b being whether one was before: from an out-of-band setpoint to the next setpoint write, raise/lower, limits message or reset
+-- Whether a short gap is allowed after an accepted call, b being whether one was before: from an out-of-band setpoint to the next setpoint write, raise/lower, limits message, reset
+-- or hour that acts
 abbrev pub shortGapAfter : Bool → Call → Bool
 shortGapAfter b (WriteOccupiedHeatingSetpoint v) = false
 shortGapAfter b (WriteOccupiedCoolingSetpoint v) = false
@@ -57,3 +59,4 @@ shortGapAfter b Sweep = b
 shortGapAfter b Timer = b
 shortGapAfter b Deadline = b
 shortGapAfter b FactoryReset = false
+shortGapAfter b (Hour h) = cond (acts millWeek h) false b

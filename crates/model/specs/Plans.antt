@@ -13,11 +13,12 @@ use Rattle.model.specs.Answers.{Outcome, onlyIf, quiet}
 use Rattle.model.specs.Refusals.{Row, row}
 use Rattle.model.specs.Served.{noticed}
 use Rattle.model.specs.Limits.{minHeatSetpoint, maxHeatSetpoint, minCoolSetpoint, maxCoolSetpoint, inHeatLimits, inCoolLimits, clampHeatSetpoint, clampCoolSetpoint}
-use Rattle.model.specs.Attribution.{external, withAttributed, armedClock, servedSetpoints}
+use Rattle.model.specs.Attribution.{external, schedule, withAttributed, armedClock, servedSetpoints}
 use Rattle.model.specs.Orders.{orderOf, askSweep}
 use Rattle.model.specs.Writes.{relayNotices, sourceNotices, coolingWithGap, heatingWithGap, recordedIf, heatingRows, coolingRows, minHeatRows, maxHeatRows, minCoolRows, maxCoolRows, modeRows, writeOccupiedHeatingSetpoint, writeOccupiedCoolingSetpoint, writeMinHeatSetpointLimit, writeMaxHeatSetpointLimit, writeMinCoolSetpointLimit, writeMaxCoolSetpointLimit, writeSystemMode}
 use Rattle.model.specs.RaiseBoth.{heatingTarget, coolingTarget}
 use Rattle.model.specs.RaiseLower.{raiseRows, raiseLowerSetpoint}
+use Rattle.model.specs.Week.{Week, acts, hourRows, hour, millWeek}
 use Rattle.model.specs.Removed.{heatingAlone, coolingAlone, heatingRaiseRemoved, coolingRaiseRemoved, bothRaiseRemoved, removedWhenDone, removed, CoolingPushCutsNothing, HeatingPushCutsNothing}
 use Rattle.model.specs.Sound.{sound}
 use Rattle.model.specs.Step.{stepSound}
@@ -29,7 +30,7 @@ use Rattle.records.specs.declared.Moment.the-variants.{Never}
 use Rattle.records.specs.declared.Controller.{Controller}
 use Rattle.records.specs.declared.Readings.{Readings}
 use Rattle.records.specs.declared.Call.{Call}
-use Rattle.records.specs.declared.Call.the-variants.{WriteOccupiedHeatingSetpoint, WriteOccupiedCoolingSetpoint, WriteMinHeatSetpointLimit, WriteMaxHeatSetpointLimit, WriteMinCoolSetpointLimit, WriteMaxCoolSetpointLimit, WriteSystemMode, SetControlSequenceOfOperation, RaiseLowerSetpoint, ArmClock, OutOfBand, SeedEvents, Sweep, Timer, Deadline, FactoryReset}
+use Rattle.records.specs.declared.Call.the-variants.{WriteOccupiedHeatingSetpoint, WriteOccupiedCoolingSetpoint, WriteMinHeatSetpointLimit, WriteMaxHeatSetpointLimit, WriteMinCoolSetpointLimit, WriteMaxCoolSetpointLimit, WriteSystemMode, SetControlSequenceOfOperation, RaiseLowerSetpoint, ArmClock, OutOfBand, SeedEvents, Sweep, Timer, Deadline, FactoryReset, Hour}
 use Rattle.records.specs.declared.Stored.{Stored}
 use Rattle.records.specs.declared.Stored.the-variants.{Nothing, MinHeat, MaxHeat, MinCool, MaxCool, Mode}
 use Rattle.records.specs.declared.Sides.{Sides}
@@ -109,6 +110,22 @@ arming p = record { stored = p .stored; heating = p .heating; cooling = p .cooli
 unfoldable pub planRaiseLower : Config → Settings → ℕ → Tenths → Plan
 planRaiseLower cfg s mode amount = arming (planUnless (raiseRows cfg mode) s (planSides cfg s mode amount))
 
+-- by another source
+abbrev pub fromSource : ℕ → Plan → Plan
+fromSource n p = record { stored = p .stored; heating = p .heating; cooling = p .cooling; sides = p .sides; number = p .number; source = n; arms = p .arms; removed = p .removed }
+
+-- the entry of an hour, clamped (C-15)
+abbrev pub entryTo : Config → Settings → Hundredths → Plan
+entryTo cfg s v = fromSource schedule (heatingTo s Nothing (clampHeatSetpoint cfg s (widened v)))
+
+-- an hour that nothing refuses and that does not act is no write
+unfoldable pub plannedUnless : List Row → Settings → Planned → Planned
+plannedUnless [] s x = x
+plannedUnless (w ∷ ws) s x = cond (w .cause) (Write (refusal s (w .number))) (plannedUnless ws s x)
+
+unfoldable pub planHour : Week → Config → Settings → ℕ → Planned
+planHour w cfg s h = plannedUnless (hourRows cfg h) s (cond (acts w h) (Write (entryTo cfg s (w h))) NoWrite)
+
 unfoldable pub planned : Config → Settings → Call → Planned
 planned cfg s (WriteOccupiedHeatingSetpoint v) = Write (planHeatingSetpoint cfg s v)
 planned cfg s (WriteOccupiedCoolingSetpoint v) = Write (planCoolingSetpoint cfg s v)
@@ -126,6 +143,7 @@ planned cfg s Sweep = NoWrite
 planned cfg s Timer = NoWrite
 planned cfg s Deadline = NoWrite
 planned cfg s FactoryReset = NoWrite
+planned cfg s (Hour h) = planHour millWeek cfg s h
 
 -- the settings with the limit or the mode in them
 abbrev pub withStored : Settings → Stored → Settings
@@ -248,6 +266,14 @@ SystemModeCarried = (cfg : Config) (r : Controller) (d : Readings) (v : ℕ) →
 abbrev pub RaiseLowerCarried : Type 0
 RaiseLowerCarried =
     (cfg : Config) (r : Controller) (d : Readings) (mode : ℕ) (amount : Tenths) → raiseLowerSetpoint cfg r d mode amount ≡ carriedOut cfg d r (planRaiseLower cfg (r .attrs .settings) mode amount)
+
+-- An hour of any week is its plan carried out, or changes nothing
+abbrev pub DoneAsPlanned : Config → Readings → Controller → Planned → Outcome → Type 0
+DoneAsPlanned cfg d r NoWrite o = o ≡ quiet 0 r
+DoneAsPlanned cfg d r (Write p) o = o ≡ carriedOut cfg d r p
+
+abbrev pub HourCarried : Type 0
+HourCarried = (w : Week) (cfg : Config) (r : Controller) (d : Readings) (h : ℕ) → DoneAsPlanned cfg d r (planHour w cfg (r .attrs .settings) h) (hour w cfg r d h)
 
 -- So a call that is planned is its plan carried out.
 abbrev pub PlannedCarried : Type 0

@@ -27,7 +27,7 @@ use Rattle.records.specs.declared.Removed.{Removed}
 use Rattle.records.specs.declared.OutOfBandMessage.{OutOfBandMessage}
 use Rattle.records.specs.declared.OutOfBandMessage.the-variants.{LocalTemperature, RunningState, Update, OccupiedHeatingSetpoint, OccupiedCoolingSetpoint, SystemMode, SetpointLimits}
 use Rattle.records.specs.declared.Call.{Call}
-use Rattle.records.specs.declared.Call.the-variants.{WriteOccupiedHeatingSetpoint, WriteOccupiedCoolingSetpoint, WriteMinHeatSetpointLimit, WriteMaxHeatSetpointLimit, WriteMinCoolSetpointLimit, WriteMaxCoolSetpointLimit, WriteSystemMode, SetControlSequenceOfOperation, RaiseLowerSetpoint, ArmClock, OutOfBand, SeedEvents, Sweep, Timer, Deadline, FactoryReset}
+use Rattle.records.specs.declared.Call.the-variants.{WriteOccupiedHeatingSetpoint, WriteOccupiedCoolingSetpoint, WriteMinHeatSetpointLimit, WriteMaxHeatSetpointLimit, WriteMinCoolSetpointLimit, WriteMaxCoolSetpointLimit, WriteSystemMode, SetControlSequenceOfOperation, RaiseLowerSetpoint, ArmClock, OutOfBand, SeedEvents, Sweep, Timer, Deadline, FactoryReset, Hour}
 
 abbrev pub heatingAlone : Wide → Removed
 heatingAlone w = record { heating = w; cooling = zeroWide }
@@ -94,6 +94,7 @@ removedWhenDone cfg a Sweep = nothingRemoved
 removedWhenDone cfg a Timer = nothingRemoved
 removedWhenDone cfg a Deadline = nothingRemoved
 removedWhenDone cfg a FactoryReset = repairRemoved cfg (defaultsTaken cfg a)
+removedWhenDone cfg a (Hour h) = nothingRemoved
 
 -- and where it is refused, nothing
 unfoldable pub removed : Config → Controller → Readings → Call → Removed

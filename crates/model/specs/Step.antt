@@ -11,13 +11,14 @@ use Rattle.model.specs.Writes.{writeOccupiedHeatingSetpoint, writeOccupi
 use Rattle.model.specs.RaiseLower.{raiseLowerSetpoint}
 use Rattle.model.specs.Messages.{outOfBandMessage}
 use Rattle.model.specs.FactoryReset.{factoryReset}
+use Rattle.model.specs.Week.{millWeek, hour}
 use Rattle.model.specs.Sweep.{seedEvents, sweep, timer, deadline}
 use Rattle.records.specs.declared.Config.{Config}
 use Rattle.records.specs.declared.Settings.{Settings}
 use Rattle.records.specs.declared.Controller.{Controller}
 use Rattle.records.specs.declared.Readings.{Readings}
 use Rattle.records.specs.declared.Call.{Call}
-use Rattle.records.specs.declared.Call.the-variants.{WriteOccupiedHeatingSetpoint, WriteOccupiedCoolingSetpoint, WriteMinHeatSetpointLimit, WriteMaxHeatSetpointLimit, WriteMinCoolSetpointLimit, WriteMaxCoolSetpointLimit, WriteSystemMode, SetControlSequenceOfOperation, RaiseLowerSetpoint, ArmClock, OutOfBand, SeedEvents, Sweep, Timer, Deadline, FactoryReset}
+use Rattle.records.specs.declared.Call.the-variants.{WriteOccupiedHeatingSetpoint, WriteOccupiedCoolingSetpoint, WriteMinHeatSetpointLimit, WriteMaxHeatSetpointLimit, WriteMinCoolSetpointLimit, WriteMaxCoolSetpointLimit, WriteSystemMode, SetControlSequenceOfOperation, RaiseLowerSetpoint, ArmClock, OutOfBand, SeedEvents, Sweep, Timer, Deadline, FactoryReset, Hour}
 
 -- opening is validation, then repair of the given settings in a record otherwise blank; refused, it returns N and blank
 unfoldable pub opened : Config → Settings → Outcome
@@ -41,6 +42,7 @@ stepSound cfg r d Sweep = sweep cfg r d
 stepSound cfg r d Timer = timer cfg r d
 stepSound cfg r d Deadline = deadline cfg r d
 stepSound cfg r d FactoryReset = factoryReset cfg r
+stepSound cfg r d (Hour h) = hour millWeek cfg r d h
 
 -- a call: row 28 is asked before any other
 unfoldable pub step : Config → Controller → Readings → Call → Outcome

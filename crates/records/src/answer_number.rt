@@ -57,3 +57,6 @@ pub const UNSUPPORTED_MODE: u8 = 26;
 pub const CLOCK_TOO_LATE: u8 = 27;
 
 pub const UNSOUND_RECORD: u8 = 28;
+
+// C-15.
+pub const HOUR_OUTSIDE_WEEK: u8 = 32;

@@ -2,4 +2,6 @@
 
 pub const MANUAL: u8 = 0;
 
+pub const SCHEDULE: u8 = 1;
+
 pub const EXTERNAL: u8 = 2;

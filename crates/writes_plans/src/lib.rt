@@ -78,5 +78,6 @@ pub fn plan(cfg: Config, s: Settings, call: Call) -> Planned
         Call::Timer => Planned::NoWrite,
         Call::Deadline => Planned::NoWrite,
         Call::FactoryReset => Planned::NoWrite,
+        Call::Hour(h) => week::hour(cfg, s, h),
     }
 }

@@ -49,6 +49,16 @@ pub fn heating_to(s: Settings, stored: Stored, v: Hundredths) -> Plan
     }
 }
 
+// The same by another source.
+pub fn from_source(p: Plan, source: u8) -> Plan
+    ensures { λ q. ⌜ q ≡ spec.fromSource source p ⌝ }
+{
+    Plan {
+        source: source,
+        ..p
+    }
+}
+
 pub fn cooling_to(s: Settings, stored: Stored, v: Hundredths) -> Plan
     ensures { λ p. ⌜ p ≡ spec.coolingTo s stored v ⌝ }
 {

@@ -8,7 +8,7 @@ abbrev Inv-loop : tie.InvT-loop
 Inv-loop word row₀ row = Unit {0}
 
 abbrev μ-loop : tie.MeasureT-loop
-μ-loop word row₀ row = 25 - row
+μ-loop word row₀ row = 26 - row
 
 pub row-of-spec : {M : Type 1} → statement M
 row-of-spec = tie.close (tie.spec Inv-loop μ-loop (λ c. tt) (λ c κs. tt) (λ c. tt) (λ c. omega arith) (λ c. omega arith) (λ c. tt) (λ c. tt))
