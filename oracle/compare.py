@@ -5,6 +5,7 @@
     python3 oracle/compare.py --repair [CALLS [SEED ..]]           openings and limits messages alone, at repair's edges
     python3 oracle/compare.py --both [CALLS [SEED ..]]             raise/lower of both sides alone, at the edges of limits and gap
     python3 oracle/compare.py --reset [CALLS [SEED ..]]            resets alone, of the row's defaults and of others, at repair's edges
+    python3 oracle/compare.py --hours [CALLS [SEED ..]]            hours almost alone, at the edges of limits and gap
     python3 oracle/compare.py --replay CALLS OUTDIR                lines in OUTDIR/stdin, the Rust's answers in OUTDIR/stdout,
                                                                    but the port's where C-14 or C-20 sets them apart, marked,
                                                                    each with the amounts of removed.py
@@ -15,13 +16,16 @@ It draws configurations (their numbers from the oracle's table), records, readin
 not, and goes on until CALLS of them lie in document 01's domain. In turn with these come lists that are run through completely
 (SHORT LISTS below), as far as CALLS reaches. The same SEED gives the same lines.
 
-A difference is listed only where a rule of `Judge` says so: for the paper's rows 20, 24, 26, 27 and 28, and for C-11, C-14 and C-20. This
-program works out for itself where they are due. At a row the console must give exactly that number and the record as it was; where both
-setpoints moved, cooling's amount and all else as the Rust. To Both it must answer as raise_both.py does; with AUTO the Rust may answer
-otherwise, and goes on with the console's record. At a reset the Rust is asked twice: `reset`, which must just put the defaults in, and an
-opening on the defaults, whose settings and order the console must give; then too it goes on with the console's record. Every answer of the
-console must end in the amounts that removed.py gives (C-12); it is compared with the Rust's without them. Any other difference, and a row
-or amount that is due and does not come, is unlisted: the first of these are cut down and printed, and the exit code is 1.
+A difference is listed only where a rule of `Judge` says so: for the paper's rows 20, 24, 26, 27 and 28, and for C-11, C-14, C-15 and C-20.
+This program works out for itself where they are due. At a row the console must give exactly that number and the record as it was; where
+both setpoints moved, cooling's amount and all else as the Rust. To Both it must answer as raise_both.py does; with AUTO the Rust may
+answer otherwise, and goes on with the console's record. At a reset the Rust is asked twice: `reset`, which must just put the defaults in,
+and an opening on the defaults, whose settings and order the console must give; then too it goes on with the console's record. In place of
+an hour that acts the Rust is asked for a heating write of what hours.py gives, and goes on with the console's record; the console must
+answer alike, with source 1 where the Rust records 2. At any other hour it is asked nothing, and the console's record must stay as it was.
+Every answer of the console must end in the amounts that removed.py gives (C-12); it is compared with the Rust's without them. Any other
+difference, and a row or amount that is due and does not come, is unlisted: the first of these are cut down and printed, and the exit code
+is 1.
 Python's standard library is all it needs.
 """
 
@@ -36,6 +40,7 @@ import sys
 import tempfile
 import time
 
+import hours
 from raise_both import is_both, raise_both
 from removed import CLAMPS, removed
 
@@ -150,6 +155,8 @@ class Config:
             return 24
         if words[0] == "oobmode" and int(words[1]) not in self.modes:
             return 26
+        if words[0] == "hour":
+            return hours.refusal(self, words)
         return 0
 
 
@@ -174,6 +181,11 @@ def state_of(words):
     pair = "-" if heating == "-" else f"{heating}/{cooling}"
     names = re.findall(r"\w+=", BLANK)
     return " ".join(name + str(field) for name, field in zip(names, (*fields, pair, armed))), held
+
+
+def state_in(said):
+    """The state in an answer, or the one that a `record` line lends."""
+    return state_of(said.split(" "))[0] if said.startswith("record ") else STATE.search(said)[0]
 
 
 def record_of(state):
@@ -266,6 +278,28 @@ def with_order(config, theirs):
     return f"0 {with_fields(state, {'pend': pending})} order={field['mode']}/{field['h']}/{field['c']} {rest}"
 
 
+# --- C-15
+
+SCHEDULE, EXTERNAL = "1", "2"
+
+
+def field_of(state, name):
+    return re.search(rf"\b{name}=(\S+)", state)[1]
+
+
+def with_source(text, source):
+    return re.sub(r" src=\S+", f" src={source}", text)
+
+
+def heating_write(config, words, state):
+    """What the Rust is asked for in place of an hour that acts on this record; nothing for any other call."""
+    if words[0] != "hour" or why_unsound(config, state) or config.added(words):
+        return None
+    value = hours.stored(config, words, state)
+    readings = (word if word in "@-" else int(word) for word in words[2:])  # without zeros in front, so that the line gets no longer
+    return None if value is None else " ".join(map(str, ("heat", value, *readings)))
+
+
 # --- C-12
 
 SIDES = {(True, False): "heating", (False, True): "cooling", (True, True): "both"}
@@ -289,7 +323,11 @@ BOTH, CONSOLE_ALONE, UNREADABLE = range(3)  # how a line is meant
 
 BOTH_MOVED, BOTH_HAD_MOVED, BOTH_RAISED = "both moved", "both had moved", "both raised"
 RESET, RESET_REPAIRED, RESET_OPENED = RESETS = "reset", "reset, repaired", "reset, beside an opening"
+HOUR_ACTS, HOUR_RESTS = "hour that acts", "hour that does not act"
 LISTED = {
+    HOUR_ACTS: "DIFFERENCES 12: C-15, an hour that acts, beside a heating write",
+    HOUR_RESTS: "DIFFERENCES 12: C-15, an hour that does not act",
+    32: "DIFFERENCES 12: C-15, row 32",
     RESET: "DIFFERENCES 11: C-11, reset, defaults that need no repair",
     RESET_REPAIRED: "DIFFERENCES 11: C-11, reset, defaults that need repair",
     RESET_OPENED: "DIFFERENCES 11: C-11, reset, defaults of no row: its opening alone",
@@ -307,12 +345,13 @@ LISTED = {
 class Counts:
     def __init__(self):
         self.lines = self.calls = self.compared = 0
-        self.kinds, self.numbers, self.left_out = (collections.Counter() for _ in range(3))
+        self.kinds, self.numbers, self.left_out, self.hours = (collections.Counter() for _ in range(4))
         self.listed, self.removed = (collections.defaultdict(collections.Counter) for _ in range(2))
 
     def domain(self):
-        """Calls in document 01's domain, and resets: all but those answered 24, 27 or 28 and those whose values the Rust's types lack."""
-        rows = 20, 26, BOTH_MOVED, BOTH_HAD_MOVED, BOTH_RAISED, *RESETS
+        """Calls in document 01's domain, resets, and hours that act: all but those answered 24, 27, 28 or 32, other hours, and those whose
+        values the Rust's types lack."""
+        rows = 20, 26, BOTH_MOVED, BOTH_HAD_MOVED, BOTH_RAISED, *RESETS, HOUR_ACTS
         return self.compared + sum(sum(self.listed[LISTED[row]].values()) for row in rows)
 
 
@@ -334,7 +373,7 @@ class Judge:
 
     def step(self, line, how, at, ours, theirs, beside):
         """`beside` are the Rust's answers to what it was asked beside the line."""
-        self.due = ""  # the field of C-12, or the answer to a reset, where the console's is another
+        self.due = ""  # the field of C-12, or the answer to a reset or an hour, where the console's is another
         self.beside = beside
         self.counts.lines += 1
         if how == UNREADABLE:
@@ -372,7 +411,7 @@ class Judge:
             self.counts.left_out["after an unlisted difference"] += 1
             return None
         why = self.call(words, how, before, ours, theirs)
-        if goes_apart(self.config, words) or words[0] == "reset":
+        if goes_apart(self.config, words) or words[0] == "reset" or heating_write(self.config, words, before):
             self.lend(*state_of(record_of(self.state).split(" ")))
         return why
 
@@ -398,8 +437,12 @@ class Judge:
                 return self.leave_out("record" if not self.held else "oobmode", theirs)
             if row == 26 and theirs != f"0 {with_amount(before, self.rusts)} {NOTHING}":
                 return "row 26 is due, and the Rust does not just leave the record as it was"
-            self.level &= row == 26 or how == CONSOLE_ALONE
+            self.level &= row == 26 or how == CONSOLE_ALONE or words[0] == "hour"
+            if words[0] == "hour":
+                self.counts.hours[f"refused by {row}"] += 1
             return self.list(row, outcome(theirs), reason)
+        if words[0] == "hour":
+            return self.hour(words, before, ours, theirs)
         if is_both(words) and ours != raise_both(self.config, words, before):
             return "C-14's answer is due"
         if words[0] == "reset":
@@ -439,6 +482,31 @@ class Judge:
             return "the answers differ, and not by order and bit 9 alone"
         bit = " pend={} ".format(STATE.fullmatch(ANSWER.fullmatch(ours)[2])[9]) in theirs
         return self.list(RESET if kept else RESET_REPAIRED, "no order" if bit else "no order, no bit 9")
+
+    def hour(self, words, before, ours, theirs):
+        value = hours.stored(self.config, words, before)
+        if value is None:
+            self.counts.hours["not acting"] += 1
+            self.lost = ours != f"0 {before} {NOTHING}"
+            return "the hour does not act, and the record as it was is due" if self.lost else self.list(HOUR_RESTS, outcome(theirs))
+        if not self.held:
+            return self.leave_out("record", theirs)
+        if not self.level:
+            return "compare.py asks on after a listed difference"
+        recorded = str(value) != field_of(before, "h")
+        if theirs.startswith("?") or field_of(theirs, "src") != (EXTERNAL if recorded else field_of(before, "src")):
+            return "the Rust does not just write the setpoint"
+        due = with_source(theirs, SCHEDULE) if recorded else theirs
+        if not recorded and amount_of(theirs) == self.rusts:  # C-20's may still stand
+            due = with_amount(theirs, amount_of(before))
+        if ours != due:
+            self.due = due
+            return "C-15's answer is due"
+        self.counts.hours["acting"] += 1
+        self.counts.hours["acting, recorded"] += recorded
+        self.counts.hours["acting, the entry clamped"] += hours.is_clipped(words, value)
+        self.counts.hours["acting, cooling moves"] += field_of(ours, "c") != field_of(before, "c")
+        self.list(HOUR_ACTS, "another source" if recorded else "answers the same")
 
     def attributed(self, words, before, ours, theirs):
         """Equal answers but for the amount of C-20, from the sweep that records it until another is recorded."""
@@ -491,8 +559,8 @@ class Pair:
         """Both programs' answers to lines, each with how it is meant, none where no answer is due; and the Rust's to what it is asked
         beside the line."""
         ours = self.answers(self.programs[0], [line for line, _ in items])
-        asked = []  # of the Rust, at each line: behind Both with AUTO, and behind a reset, it gets the console's record
-        config = Config([0] * 5, [0] * 7)
+        asked = []  # of the Rust, at each line: behind Both with AUTO, a reset and an hour that acts, it gets the console's record
+        config, had = Config([0] * 5, [0] * 7), BLANK
         for (line, how), answer in zip(items, ours):
             asked.append([line if how != CONSOLE_ALONE else "#"])
             words = line.split(" ")
@@ -500,9 +568,17 @@ class Pair:
                 config = Config.read(words)
             if how == BOTH and words[0] == "reset":
                 asked[-1].append(opening_on_defaults(config))
-            apart = how == BOTH and (words[0] == "reset" or goes_apart(config, words))
+            write = None
+            if how == BOTH and words[0] == "hour":
+                write = heating_write(config, words, state_in(had))
+                asked[-1] = [write or "#"]
+            apart = how == BOTH and (words[0] == "reset" or goes_apart(config, words) or write)
             if apart and (done := ANSWER.fullmatch(without_cut(answer)[0])):
                 asked[-1].append(record_of(done[2]))
+            if how != UNREADABLE and words[0] == "record":
+                had = line
+            elif answer is not None and STATE.search(answer):
+                had = answer
         theirs = self.answers(self.programs[1], [line for lines in asked for line in lines])
         return ((answer, *told) for answer, told in zip(ours, by_line(asked, theirs)))
 
@@ -1018,6 +1094,51 @@ def with_resets(draw, script):
         yield line, how
 
 
+def hour(draw):
+    acting, weekend = draw.of(*hours.ACTING), draw.of(126, 138, 150, 162)
+    number = draw.of(*[acting] * 8, acting + draw.of(-1, 1), weekend, draw.of(0, 167, 168, 255), draw.below(256))
+    line = f"hour {number}"
+    clock = draw.of(0, LAST_CLOCK, LAST_CLOCK + 1, (1 << 64) - 1)  # row 27 is not for an hour
+    return line + readings(draw, line, draw.relays(), ["-", 2000, draw.any16()], clock)
+
+
+def with_hours(draw, script):
+    """A script with hours among its calls; drawn apart, so that all else in it stays as it was."""
+    for line, how in script:
+        if how != UNREADABLE and line.split(" ")[0] in KINDS and draw.chance(0.06):
+            yield from said(draw, hour(draw))
+        yield line, how
+
+
+def towards_the_week(draw, config, record):
+    """Puts some of the record's numbers at or beside an entry of the week, or a dead band from one, as far as row 28 allows."""
+    for _ in range(draw.of(0, 2, 4, 8)):
+        place = draw.below(6)
+        had = record.settings[place]
+        record.settings[place] = draw.near([1700, 2000], config.band)
+        if config.unsound(record.settings, record.last):
+            record.settings[place] = had
+
+
+def hours_script(draw, table):
+    """Hours on records of every kind, some of them behind one another; now and then something else between."""
+    config = good_config(draw, table)
+    yield config.line, BOTH
+    for _ in range(20):
+        record = Record(draw, config)
+        towards_the_week(draw, config, record)
+        if draw.chance(0.03):
+            record.spoil(draw, config)
+        elif draw.chance(0.02):
+            record.outgrow(draw)
+        yield record.line(), BOTH
+        for _ in range(draw.of(1, 1, 2, 4)):
+            yield hour(draw), BOTH
+            if draw.chance(0.1):
+                line = draw.of("sweep", "arm", "oobheat 1700", "oobheat 2000", "oobcool 2000", "maxheat 2000", "minheat 1700")
+                yield line + " @ 1 2 2000 - 7 0", CONSOLE_ALONE if config.added(line.split(" ")) else BOTH
+
+
 def reset_script(draw, table):
     """Resets alone, on records of every kind, some of them behind one another."""
     config = good_config(draw, table)
@@ -1040,10 +1161,10 @@ def scripts_of(script, seed, table):
 
 
 def drawn_scripts(seed, table):
-    draw, resets = Draw(seed), Draw(f"{seed} resets")
+    draw, resets, hourly = Draw(seed), Draw(f"{seed} resets"), Draw(f"{seed} hours")
     scripts = [chain_script] * 4 + [refused_script] * 4 + [changed_script] + [records_script] * 31
     while True:
-        yield list(with_resets(resets, draw.of(*scripts)(draw, table)))
+        yield list(with_hours(hourly, with_resets(resets, draw.of(*scripts)(draw, table))))
 
 
 # --- SHORT LISTS, run through completely
@@ -1121,6 +1242,17 @@ def temperature_cases(config):
             yield record.line(), f"deadline @ 0 0 {current} - - 0"
 
 
+def hour_cases():
+    """Either entry of the week, on the plant with limits and setpoints at and beside the entries, the gap kept or short."""
+    numbers = 700, 1699, 1700, 1701, 1850, 1999, 2000, 2001, 2900
+    for low, high in itertools.combinations_with_replacement(numbers, 2):
+        for heating, gap, hour in itertools.product(numbers, (-500, 249, 250, 251, 500), (6, 18)):
+            if low <= heating <= high:
+                least = max(1600, low + 250)
+                cooling = max(least, min(heating + gap, 3200))
+                yield f"record {heating} {cooling} {low} {high} {least} 3200 1 0 0 2 5 6 - - 7 -", f"hour {hour}"
+
+
 def lent_calls(table):
     """Configurations with pairs of a record and a call on it."""
     plant, tight = table[0], table[16]
@@ -1133,6 +1265,7 @@ def lent_calls(table):
     # Every number that a write can name on the plant, with some room.
     for word in (*WRITES, "oobheat", "oobcool"):
         yield plain(plant), ((LENT, f"{word} {value}") for value in range(600, 3301))
+    yield plain(plant), hour_cases()
     shapes = [
         plain(plant), plain(plant, without=LIMITS), plain(plant, without=[0x1E, 0x29, *CHANGES]), plain(plant, BOTH_SIDES),
         plain(plant, BOTH_SIDES | TEVT | LTNE), plain(plant, HEAT | COOL | TEVT), plain(heats, HEAT | TEVT), plain(cools, COOL | TEVT),
@@ -1147,6 +1280,10 @@ def lent_calls(table):
         yield config, ((record, f"raise {mode} 5") for mode in range(256))
         yield config, ((fitting(config, pending=pending).line(), "sweep @ 5 0 2000 - 4 70000") for pending in range(1024))
         yield config, ((fitting(config, pending=pending).line(), "reset @ 5 0 2000 - 4 70000") for pending in range(1024))
+        # Every hour, on a record with everything pending and relays that move.
+        for seed in 1, 2:
+            record = fitting(config, seed, pending=1023, armed=4).line()
+            yield config, ((record, f"hour {number} @ 5 0 2000 - 6 70000") for number in range(256))
     # Relays, before and after an order, and beside the snapshot.
     for config, step in (plain(plant), 1), (plain(heats, HEAT | TEVT), 8), (plain(cools, COOL | TEVT), 8):
         record = fitting(config)
@@ -1177,7 +1314,7 @@ def short_lists(table):
         for part in in_parts(pairs, 200):
             yield [(config.line, BOTH)] + [(line, BOTH) for pair in part for line in pair]
     # Every list of three calls, from an opening.
-    calls = [*LIST_CALLS.strip().replace("\n", "; ").split("; "), "reset @ 0 1 - - 6 0"]
+    calls = [*LIST_CALLS.strip().replace("\n", "; ").split("; "), "reset @ 0 1 - - 6 0", "hour 6 @ 0 1 - - 6 0", "hour 18"]
     for config in plain(table[0]), plain(table[0], without=LIMITS), plain(table[4], HEAT | COOL | TEVT):
         meant = [(line, CONSOLE_ALONE if config.added(line.split(" ")) == 24 else BOTH) for line in calls]
         for lists in in_parts(itertools.product(meant, repeat=3), 50):
@@ -1213,6 +1350,8 @@ def compare(arguments):
             yield from scripts_of(both_script, arguments.seed, table)
         if arguments.reset:
             yield from scripts_of(reset_script, arguments.seed, table)
+        if arguments.hours:
+            yield from scripts_of(hours_script, arguments.seed, table)
         drawn = drawn_scripts(arguments.seed, table)
         for script in short_lists(table):
             yield script
@@ -1237,10 +1376,11 @@ def compare(arguments):
         print(f"  {name:<64}{count:>9}{more}")
 
     print(f"seed {arguments.seed}, table of {len(table)} rows, {counts.lines} lines answered, {time.monotonic() - started:.0f} s")
-    alone = "openings and limits messages alone" * arguments.repair or "Both alone" * arguments.both or "resets alone" * arguments.reset
+    alone = "openings and limits messages alone" * arguments.repair or "Both alone" * arguments.both
+    alone = alone or "resets alone" * arguments.reset or "hours almost alone" * arguments.hours
     print("  " + (alone or f"short lists {'complete' if complete else 'cut short'}"))
     row("calls", counts.calls)
-    row("of them in document 01's domain, or resets", counts.domain())
+    row("of them in document 01's domain, resets, or hours that act", counts.domain())
     print("lines by kind")
     for name, count in sorted(counts.kinds.items()):
         row(name, count)
@@ -1250,6 +1390,9 @@ def compare(arguments):
     print("answers with an amount removed other than 0 (C-12), by kind of call")
     for name, sides in sorted(counts.removed.items()):
         row(name, sum(sides.values()), "  " + ", ".join(f"{side} {count}" for side, count in sorted(sides.items())))
+    print("hours (C-15), with what was compared of those that act")
+    for name, count in sorted(counts.hours.items()):
+        row(name, count)
     print("listed differences, and what the Rust did")
     for name, rust in sorted(counts.listed.items()):
         row(name, sum(rust.values()), "  " + ", ".join(f"{word} {count}" for word, count in rust.most_common()))
@@ -1419,6 +1562,7 @@ def main():
     parser.add_argument("--repair", action="store_true")
     parser.add_argument("--both", action="store_true")
     parser.add_argument("--reset", action="store_true")
+    parser.add_argument("--hours", action="store_true")
     parser.add_argument("--replay", nargs=2, metavar=("CALLS", "OUTDIR"))
     arguments = parser.parse_args()
     return replay(arguments) if arguments.replay else compare(arguments)

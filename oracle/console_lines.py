@@ -1,6 +1,6 @@
 #!/usr/bin/env python3
 """How the console reads lines: every statement of docs/CONSOLE.md about them, and beside the oracle, which reads the same lines. Its
-answers lack the field of C-12.
+answers lack the field of C-12. The Rust has no hours (C-15): in place of `hour` the oracle reads `mode`, which takes the same numbers.
 
     python3 oracle/console_lines.py [CONSOLE [ORACLE]]
 
@@ -24,7 +24,7 @@ FORMS = {
     "config": "wdqqqhhhhtbh", "open": "hhhhhhb", "record": "hhhhhhbfwbHdHHDQ", "heat": "h", "cool": "h", "minheat": "h", "maxheat": "h",
     "mincool": "h", "maxcool": "h", "mode": "b", "sequence": "b", "raise": "bt", "arm": "", "oobheat": "h", "oobcool": "h", "oobmode": "b",
     "ooblimits": "hhhh", "oobtemp": "", "oobrunning": "", "oobupdate": "", "start": "", "sweep": "", "timer": "", "deadline": "",
-    "reset": "",
+    "reset": "", "hour": "b",
 }  # fmt: skip
 MORE = {"config": "hhhhhhb", "record": "Hhhbwb"}  # what may follow, all of it or nothing; at the others the readings
 AMOUNT = rb"(0|-?[1-9]\d*)"
@@ -53,9 +53,14 @@ def lines_of(lines):
     return b"".join(line + b"\n" for line in lines)
 
 
+def without_hours(line):
+    """The line with `mode` for `hour`, where that is its first word."""
+    return re.sub(rb"\Ahour(?![^ ])", b"mode", line)
+
+
 def both(lines):
     """Pairs of answers to lines that each have one."""
-    ours, theirs = ask(CONSOLE, lines_of(lines)), ask(ORACLE, lines_of(lines))
+    ours, theirs = ask(CONSOLE, lines_of(lines)), ask(ORACLE, lines_of(map(without_hours, lines)))
     check(len(ours) == len(theirs) == len(lines), "an answer a line", len(ours), len(theirs), len(lines))
     others = [answer for answer in ours if not ANSWER.fullmatch(answer)]
     check(not others, "the fields of an answer", *others[:3])
@@ -148,7 +153,7 @@ def every_byte():
     """Lines with one byte replaced, put in or taken out, through all its values: both read them, or neither."""
     sources = [b"record 1 -2 3 4 5 6 0 1 2 0 - 7 - - - 8 - 1 2 3 4 0", b"config 11 547 5 59 1 7 29 16 32 25 4 50"]
     sources += [b"config 11 3 5 0 1 7 29 16 32 25 4 50 20 22 7 29 -16 32 4", b"reset @ 1 2 - 3 - 60000"]
-    sources += [b"heat 20 @ 1 2 - 3 - 60000", b"raise 2 -10", b"arm"]
+    sources += [b"heat 20 @ 1 2 - 3 - 60000", b"raise 2 -10", b"arm", b"hour 18 @ 1 2 - 3 - 60000"]
     lines = []
     for source in sources:
         for place in range(len(source) + 1):
@@ -282,6 +287,22 @@ def defaults():
         check(told([full, lent, line, b"reset"]) == [b"ok", b"ok", b"error 3", put_in], "no reset", line)
 
 
+def hours():
+    """Every number of 8 bits, in every way of writing it, is the hour that it says: 32 from 168 on, and the setpoint of those that act."""
+    plant = b"config 11 547 1972525402030201 59 1 700 2900 1600 3200 25 4 50"
+    lent = b"record 1850 2250 700 2900 1600 3200 1 0 0 2 5 6 - - - -"
+    acting = {24 * day + hour: heating for day in range(5) for hour, heating in ((6, 2000), (18, 1700))}
+    for number in b"%d", b"%03d", b"%025d":
+        for readings in b"", b" @ 0 0 - - - 0", b" @ 65535 65535 -32768 4294967295 0 18446744073709551615":
+            told = ask(CONSOLE, lines_of(line for hour in range(256) for line in (plant, lent, b"hour " + number % hour + readings)))
+            due = [b"%d h=%d " % (0 if hour < 168 else 32, acting.get(hour, 1850)) for hour in range(256)]
+            others = [pair for pair in zip(told[2::3], due) if not pair[0].startswith(pair[1])]
+            check(not others and len(told) == 3 * len(due), "hours", number, readings, *others[:3])
+    kept = ask(CONSOLE, lines_of([plant, lent, b"hour -0"]))
+    for line in b"hour", b"hour 256", b"hour -1", b"hour -", b"hour 6 18", b"hour 6 @", b"hour 6 @ 0 0 - - -", b"Hour 6", b"hours 6":
+        check(ask(CONSOLE, lines_of([plant, lent, line, b"hour -0"])) == [*kept[:2], b"error 3", kept[2]], "no hour", line)
+
+
 def in_pieces():
     """The same answers, however the input is cut up."""
     plant = b"# plant\nconfig 11 547 1972525402030201 59 1 700 2900 1600 3200 25 4 50\n\n"
@@ -354,6 +375,7 @@ if __name__ == "__main__":
     taken_as_written()
     amounts()
     defaults()
+    hours()
     in_pieces()
     speed()
     odd_handles()
