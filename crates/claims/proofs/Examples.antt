@@ -7,7 +7,7 @@ use Rattle.model.specs.Plant.{at, plant, plantSettings, noReadings}
 use Rattle.model.specs.Lists.{Entry, number, run}
 use Rattle.claims.specs.Claims.{limitsEntry, AllAccepted, Adjacent, heating-cooling, heating-only, cooling-only, LimitsThenWrites, ModeWritten, AgreeAfter, shortGapAllowed}
 use Rattle.model.specs.Examples.{withoutReadings}
-use Rattle.claims.specs.Examples.{before, between, later, bothWrites, withWrites, otherSettings, heatingPlant, refusedLater, heatingLater, coolingPlant, coolingLater, BothSides, HeatingOnly, CoolingOnly, CallBetweenDiffers, LimitWritesDiffer, ShortGapEndsAtReset, OneAfterReset}
+use Rattle.claims.specs.Examples.{before, between, later, bothWrites, withWrites, otherSettings, heatingPlant, refusedLater, heatingLater, coolingPlant, coolingLater, BothSides, HeatingOnly, CoolingOnly, CallBetweenDiffers, LimitWritesDiffer, ShortGapEndsAtReset, OneAfterReset, ShortGapEndsAtHour}
 use Rattle.model.specs.Everything.{everything}
 use Rattle.records.specs.declared.Config.{Config}
 use Rattle.records.specs.declared.Controller.{Controller}
@@ -99,3 +99,7 @@ short-gap-ends-at-reset = (refl, refl, refl, refl)
 pub one-after-reset : OneAfterReset
 unfolding everything
 one-after-reset = (refl, refl, refl)
+
+pub short-gap-ends-at-hour : ShortGapEndsAtHour
+unfolding everything shortGapAllowed
+short-gap-ends-at-hour = (refl, refl, refl, refl)

@@ -1,5 +1,5 @@
 -- Line 3 at work: lists that meet its premises on document 01's plant, on one that only heats and on one that only cools; what its premises rule
--- out; and C-11's. docs/THEOREM.md describes each.
+-- out; and those of C-11 and C-15. docs/THEOREM.md describes each.
 use mathlib.Core.Path.{_≡_}
 use mathlib.Core.Bool.{true, false}
 use mathlib.Core.List.{List, [], _∷_, _++_}
@@ -24,7 +24,7 @@ use Rattle.records.specs.declared.Event.the-variants.{SetpointChange}
 use Rattle.records.specs.declared.Order.the-variants.{NoOrder}
 use Rattle.records.specs.declared.OutOfBandMessage.the-variants.{LocalTemperature, OccupiedHeatingSetpoint, OccupiedCoolingSetpoint, SetpointLimits}
 use Rattle.records.specs.declared.Call.{Call}
-use Rattle.records.specs.declared.Call.the-variants.{WriteOccupiedHeatingSetpoint, WriteOccupiedCoolingSetpoint, WriteMinHeatSetpointLimit, WriteMaxHeatSetpointLimit, WriteMinCoolSetpointLimit, WriteMaxCoolSetpointLimit, WriteSystemMode, RaiseLowerSetpoint, OutOfBand, SeedEvents, Sweep, FactoryReset}
+use Rattle.records.specs.declared.Call.the-variants.{WriteOccupiedHeatingSetpoint, WriteOccupiedCoolingSetpoint, WriteMinHeatSetpointLimit, WriteMaxHeatSetpointLimit, WriteMinCoolSetpointLimit, WriteMaxCoolSetpointLimit, WriteSystemMode, RaiseLowerSetpoint, OutOfBand, SeedEvents, Sweep, FactoryReset, Hour}
 
 -- both controllers meet the premises on the list, the calls of both have these numbers, and both end at these setpoints
 pub record Instance (cfg : Config) (s t : Settings) (l : List Entry) (ns : List ℕ) (zs : List ℤ) : Type 0 where
@@ -49,7 +49,7 @@ abbrev pub bothWrites : List Entry
 bothWrites = withoutReadings (WriteOccupiedHeatingSetpoint (at 2000)) ∷ withoutReadings (WriteOccupiedCoolingSetpoint (at 2100)) ∷ []
 
 abbrev pub later : List Entry
-later = withoutReadings (RaiseLowerSetpoint 2 (record { 0 = pos 10 })) ∷ withoutReadings (RaiseLowerSetpoint 3 (record { 0 = pos 10 })) ∷ withoutReadings (OutOfBand LocalTemperature) ∷ withoutReadings Sweep ∷ []
+later = withoutReadings (RaiseLowerSetpoint 2 (record { 0 = pos 10 })) ∷ withoutReadings (RaiseLowerSetpoint 3 (record { 0 = pos 10 })) ∷ withoutReadings (OutOfBand LocalTemperature) ∷ withoutReadings Sweep ∷ withoutReadings (Hour 30) ∷ withoutReadings (Hour 168) ∷ []
 
 -- the limits message 1000, 2500, 1800, 3000 stands before what comes between
 abbrev pub withWrites : List Entry → List Entry → List Entry
@@ -58,7 +58,7 @@ withWrites writes after = before ++ (limitsEntry (at 1000) (at 2500) (at 1800) (
 abbrev pub BothSides : Type 0
 BothSides =
     Instance plant (plantSettings 2000 2250) otherSettings (withWrites bothWrites later)
-    (0 ∷ 0 ∷ 22 ∷ 0 ∷ 0 ∷ 0 ∷ 0 ∷ 0 ∷ 0 ∷ 0 ∷ 25 ∷ 0 ∷ 0 ∷ []) (pos 1950 ∷ pos 2200 ∷ [])
+    (0 ∷ 0 ∷ 22 ∷ 0 ∷ 0 ∷ 0 ∷ 0 ∷ 0 ∷ 0 ∷ 0 ∷ 25 ∷ 0 ∷ 0 ∷ 0 ∷ 32 ∷ []) (pos 2000 ∷ pos 2250 ∷ [])
 
 -- the plant with one side: its features with TEVT, its attributes with those of the mode, the sequence, the temperature, the relays and the source;
 -- events mode, temperature, setpoint and relays
@@ -101,12 +101,12 @@ HeatingOnly =
     (0 ∷ 22 ∷ 22 ∷ 0 ∷ 0 ∷ 0 ∷ 0 ∷ 0 ∷ 24 ∷ 0 ∷ 23 ∷ 0 ∷ []) (pos 2100 ∷ pos 2250 ∷ [])
 
 abbrev pub coolingLater : List Entry
-coolingLater = withoutReadings (WriteOccupiedHeatingSetpoint (at 2000)) ∷ withoutReadings (RaiseLowerSetpoint 2 (record { 0 = pos 10 })) ∷ withoutReadings (RaiseLowerSetpoint 0 (record { 0 = pos 10 })) ∷ []
+coolingLater = withoutReadings (WriteOccupiedHeatingSetpoint (at 2000)) ∷ withoutReadings (RaiseLowerSetpoint 2 (record { 0 = pos 10 })) ∷ withoutReadings (RaiseLowerSetpoint 0 (record { 0 = pos 10 })) ∷ withoutReadings (Hour 6) ∷ []
 
 abbrev pub CoolingOnly : Type 0
 CoolingOnly =
     Instance coolingPlant (plantSettings 2000 2250) (plantSettings 2000 3100) (withWrites (withoutReadings (WriteOccupiedCoolingSetpoint (at 2100)) ∷ []) coolingLater)
-    (0 ∷ 0 ∷ 24 ∷ 0 ∷ 0 ∷ 0 ∷ 24 ∷ 0 ∷ 24 ∷ 0 ∷ 23 ∷ []) (pos 1200 ∷ pos 2200 ∷ [])
+    (0 ∷ 0 ∷ 24 ∷ 0 ∷ 0 ∷ 0 ∷ 24 ∷ 0 ∷ 24 ∷ 0 ∷ 23 ∷ 24 ∷ []) (pos 1200 ∷ pos 2200 ∷ [])
 
 -- an accepted call between the two writes: cooling 2250 against 3000, and they differ
 abbrev pub callBetween : List Entry
@@ -152,3 +152,14 @@ OneAfterReset =
     (setpoints (run plant (opened plant otherSettings .rec) before) ≡ pos 1750 ∷ pos 2100 ∷ [])
     × (run plant (opened plant otherSettings .rec) (thenReset before) .attrs ≡ record { settings = plantSettings 2000 2250; dirty = false })
     × (run plant first (thenReset shortGap) .attrs ≡ record { settings = plantSettings 2000 2250; dirty = false })
+
+-- C-15. A short gap outlasts an hour that does not act and ends at one that does, though its 2000 is stored already
+abbrev pub thenHour : ℕ → List Entry
+thenHour h = shortGap ++ (withoutReadings (Hour h) ∷ [])
+
+abbrev pub ShortGapEndsAtHour : Type 0
+ShortGapEndsAtHour =
+    (shortGapAllowed plant first false (thenHour 7) ≡ true)
+    × (setpoints (run plant first (thenHour 7)) ≡ pos 2000 ∷ pos 2100 ∷ [])
+    × (shortGapAllowed plant first false (thenHour 6) ≡ false)
+    × (setpoints (run plant first (thenHour 6)) ≡ pos 2000 ∷ pos 2250 ∷ [])

@@ -1,7 +1,7 @@
 -- Document 01's four traps and the cases of C-12, C-14, C-20 and C-24, computed.
 use mathlib.Core.Path.{refl}
 use Rattle.model.specs.RepairedSettings.{AdjustmentActs}
-use Rattle.model.specs.Examples.{DirtyThoughUndone, EqualWriteKeepsGap, MessageWithoutOrder, ArmedSecondOnce, SameAmountForBoth, HeatingGivesWay, FirstRecordIsCoolings, PanelMovedBoth, TakenAs, FirstClampsAlone, ServedSidesAlone, DefaultsRepaired, DefaultsAsDelivered}
+use Rattle.model.specs.Examples.{DirtyThoughUndone, EqualWriteKeepsGap, MessageWithoutOrder, ArmedSecondOnce, SameAmountForBoth, HeatingGivesWay, FirstRecordIsCoolings, PanelMovedBoth, TakenAs, FirstClampsAlone, ServedSidesAlone, DefaultsRepaired, DefaultsAsDelivered, PlantsMonday, OtherHoursRest, EntryClipped}
 use Rattle.model.specs.Everything.{everything}
 
 pub dirty-though-undone : DirtyThoughUndone
@@ -59,3 +59,16 @@ defaults-repaired = (refl, refl, refl, refl, refl, refl, refl, refl, refl, refl,
 pub defaults-as-delivered : DefaultsAsDelivered
 unfolding everything
 defaults-as-delivered = (refl, refl, refl)
+
+pub plants-monday : PlantsMonday
+unfolding everything
+plants-monday = (refl, refl, refl, refl, refl, refl, refl, refl)
+
+pub other-hours-rest : OtherHoursRest
+unfolding everything
+other-hours-rest =
+    ((refl, refl, refl, refl, refl), (refl, refl, refl, refl, refl), (refl, refl, refl, refl, refl), (refl, refl, refl, refl, refl))
+
+pub entry-clipped : EntryClipped
+unfolding everything
+entry-clipped = (refl, refl)

@@ -24,7 +24,7 @@ use Rattle.model.specs.Writes.{minHeatRows, maxHeatRows, minCoolRows, ma
 use Rattle.model.specs.RaiseLower.{raiseLowerSetpoint}
 use Rattle.model.specs.Sweep.{sweep, timer, seedEvents, deadline}
 use Rattle.model.specs.FactoryReset.{defaultsTaken, factoryReset}
-use Rattle.model.specs.Week.{millWeek, acts, storeEntry, hour}
+use Rattle.model.specs.Week.{Week, millWeek, acts, storeEntry, hour}
 use Rattle.model.specs.Step.{opened, step, stepSound}
 use Rattle.model.specs.Laws.{OpenedSound, StepSound}
 use Rattle.records.specs.declared.Config.{Config}
@@ -151,8 +151,17 @@ module _ (cfg : Config) (v : Valid cfg) (d : Readings) (r : Controller) (g : Goo
   cool-limit : (a : Attrs) (code : ℕ) → LimitTests cfg (a .settings) → soundHeating cfg (a .settings) ≡ true → isSupportedSystemMode cfg (a .settings .mode) ≡ true → GoodOutcome (applied cfg d (andThen (limitStored cfg r a code) (pullCooling cfg d)))
   cool-limit a code t h m = applied-good cfg v d _ (cooling-pulled cfg v d (withAttrs r a) (record { limits = t; mode = m; last = g .last }) h)
 
+  -- an hour of any week
+  hour-good : (w : Week) (h : ℕ) → GoodOutcome (hour w cfg r d h)
+  unfolding hour storeEntry
+  hour-good w h =
+      let s = r .attrs .settings in
+      guarded _ _
+      (λ c. by-cond GoodOutcome (acts w h) _ _
+      (λ e. applied-good cfg v d _ (heating-stored cfg v d schedule _ r (rest cfg r g) (g .placed .cooling) (heat-clamped cfg s (widened (w h)) (in-force cfg s v (g .placed .limits))))) (λ e. g))
+
   sound-good : (k : Call) → GoodOutcome (stepSound cfg r d k)
-  unfolding stepSound writeOccupiedHeatingSetpoint writeOccupiedCoolingSetpoint writeMinHeatSetpointLimit writeMaxHeatSetpointLimit writeMinCoolSetpointLimit writeMaxCoolSetpointLimit writeSystemMode setControlSequenceOfOperation raiseLowerSetpoint armClock seedEvents sweep timer deadline soundHeating soundCooling inHeatLimits inCoolLimits minHeatSetpoint maxHeatSetpoint minCoolSetpoint maxCoolSetpoint factoryReset askSweep hour storeEntry
+  unfolding stepSound writeOccupiedHeatingSetpoint writeOccupiedCoolingSetpoint writeMinHeatSetpointLimit writeMaxHeatSetpointLimit writeMinCoolSetpointLimit writeMaxCoolSetpointLimit writeSystemMode setControlSequenceOfOperation raiseLowerSetpoint armClock seedEvents sweep timer deadline soundHeating soundCooling inHeatLimits inCoolLimits minHeatSetpoint maxHeatSetpoint minCoolSetpoint maxCoolSetpoint factoryReset askSweep
   sound-good (WriteOccupiedHeatingSetpoint x) =
       guarded _ _ (λ c. applied-good cfg v d _ (heating-stored cfg v d external x r (rest cfg r g) (g .placed .cooling) (not-false (inHeatLimits cfg (r .attrs .settings) x) (c .1 .0))))
   sound-good (WriteOccupiedCoolingSetpoint x) =
@@ -175,11 +184,7 @@ module _ (cfg : Config) (v : Valid cfg) (d : Readings) (r : Controller) (g : Goo
   sound-good FactoryReset =
       let a = defaultsTaken cfg (r .attrs) in
       record { placed = repair-settled cfg v a .placed; mode = repair-mode cfg v a; last = g .last }
-  sound-good (Hour h) =
-      let s = r .attrs .settings in
-      guarded _ _
-      (λ c. by-cond GoodOutcome (acts millWeek h) _ _
-      (λ e. applied-good cfg v d _ (heating-stored cfg v d schedule _ r (rest cfg r g) (g .placed .cooling) (heat-clamped cfg s (widened (millWeek h)) (in-force cfg s v (g .placed .limits))))) (λ e. g))
+  sound-good (Hour h) = hour-good millWeek h
 
   pub step-good : (k : Call) → GoodOutcome (step cfg r d k)
   unfolding step

@@ -22,7 +22,7 @@ use Rattle.model.specs.RaiseLower.{namesAbsentSide, raiseSides, raiseLow
 use Rattle.model.specs.Messages.{outOfBandMessage, heatingMessage, coolingMessage, modeMessage, limitsMessage, limitsTaken}
 use Rattle.model.specs.Sweep.{sweep, timer, started, seedEvents, deadline}
 use Rattle.model.specs.FactoryReset.{defaultsTaken, factoryReset}
-use Rattle.model.specs.Week.{millWeek, acts, storeEntry, hour}
+use Rattle.model.specs.Week.{Week, millWeek, acts, storeEntry, hour}
 use Rattle.model.specs.Step.{step, stepSound}
 use Rattle.records.specs.declared.Config.{Config}
 use Rattle.records.specs.declared.Attrs.{Attrs}
@@ -183,8 +183,19 @@ module _ (cfg : Config) (ok : accepted cfg ≡ true) (d : Readings) (q r : Contr
       let y = armedClock cfg d r in
       record { number = refl; limits = chained (raise-limits cfg d mode a x) (raise-limits cfg d mode a y) l; points = λ p. raise-points cfg d x y l p v mode a z }
 
+  -- an hour of any week
+  hour-both : (w : Week) (h : ℕ) → Both (hour w cfg q d h) (hour w cfg r d h)
+  unfolding hour storeEntry applied askSweep
+  hour-both w h =
+      let x = clampHeatSetpoint cfg (q .attrs .settings) (widened (w h)) in
+      let y = clampHeatSetpoint cfg (r .attrs .settings) (widened (w h)) in
+      guarded _ _ _ _ refl
+      (λ c. both-cond Both (acts w h) _ _ _ _
+      (λ t. record { number = refl; limits = chained (heating-limits cfg d schedule x q) (heating-limits cfg d schedule y r) l; points = λ p. heating-points cfg d q r l schedule x y (same-clamp-heat cfg (q .attrs .settings) (r .attrs .settings) l (w h) (w h) refl) (p .cooling) })
+      (λ t. refused 0))
+
   sound-both : (k : Call) → Both (stepSound cfg q d k) (stepSound cfg r d k)
-  unfolding stepSound writeOccupiedHeatingSetpoint writeOccupiedCoolingSetpoint writeMinHeatSetpointLimit writeMaxHeatSetpointLimit writeMinCoolSetpointLimit writeMaxCoolSetpointLimit writeSystemMode setControlSequenceOfOperation raiseLowerSetpoint armClock seedEvents sweep timer deadline applied askSweep started claimSetpoints factoryReset hour storeEntry
+  unfolding stepSound writeOccupiedHeatingSetpoint writeOccupiedCoolingSetpoint writeMinHeatSetpointLimit writeMaxHeatSetpointLimit writeMinCoolSetpointLimit writeMaxCoolSetpointLimit writeSystemMode setControlSequenceOfOperation raiseLowerSetpoint armClock seedEvents sweep timer deadline applied askSweep started claimSetpoints factoryReset
   sound-both (WriteOccupiedHeatingSetpoint x) =
       guarded _ _ _ _ (heat-rows x)
       (λ c. record { number = refl; limits = chained (heating-limits cfg d external x q) (heating-limits cfg d external x r) l; points = λ p. heating-points cfg d q r l external x x refl (p .cooling) })
@@ -225,14 +236,7 @@ module _ (cfg : Config) (ok : accepted cfg ≡ true) (d : Readings) (q r : Contr
   sound-both Timer = guarded _ _ _ _ refl (λ c. kept-both _ _ refl (events-attrs cfg d q) (events-attrs cfg d r))
   sound-both Deadline = record { number = refl; limits = l; points = λ p. p }
   sound-both FactoryReset = record { number = refl; limits = reset-limits cfg v (q .attrs) (r .attrs); points = λ p. reset-points cfg v (q .attrs) (r .attrs) }
-  sound-both (Hour h) =
-      let e = millWeek h in
-      let x = clampHeatSetpoint cfg (q .attrs .settings) (widened e) in
-      let y = clampHeatSetpoint cfg (r .attrs .settings) (widened e) in
-      guarded _ _ _ _ refl
-      (λ c. both-cond Both (acts millWeek h) _ _ _ _
-      (λ t. record { number = refl; limits = chained (heating-limits cfg d schedule x q) (heating-limits cfg d schedule y r) l; points = λ p. heating-points cfg d q r l schedule x y (same-clamp-heat cfg (q .attrs .settings) (r .attrs .settings) l e e refl) (p .cooling) })
-      (λ t. refused 0))
+  sound-both (Hour h) = hour-both millWeek h
 
   pub step-both : (k : Call) → Both (step cfg q d k) (step cfg r d k)
   unfolding step

@@ -1,4 +1,4 @@
--- Document 01's four traps and the cases of C-11, C-12, C-14 and C-20, computed on its plant. docs/THEOREM.md describes each.
+-- Document 01's four traps and the cases of C-11, C-12, C-14, C-15 and C-20, computed on its plant. docs/THEOREM.md describes each.
 use mathlib.Core.Path.{_≡_}
 use mathlib.Core.Bool.{true, false}
 use mathlib.Core.List.{List, [], _∷_, _++_}
@@ -28,7 +28,7 @@ use Rattle.records.specs.declared.Event.the-variants.{SetpointChange}
 use Rattle.records.specs.declared.Order.the-variants.{NoOrder, Apply}
 use Rattle.records.specs.declared.OutOfBandMessage.the-variants.{LocalTemperature, OccupiedHeatingSetpoint, OccupiedCoolingSetpoint, SetpointLimits}
 use Rattle.records.specs.declared.Call.{Call}
-use Rattle.records.specs.declared.Call.the-variants.{WriteOccupiedHeatingSetpoint, WriteOccupiedCoolingSetpoint, WriteMinHeatSetpointLimit, WriteMaxHeatSetpointLimit, WriteMinCoolSetpointLimit, WriteMaxCoolSetpointLimit, WriteSystemMode, RaiseLowerSetpoint, OutOfBand, ArmClock, SeedEvents, Sweep, FactoryReset}
+use Rattle.records.specs.declared.Call.the-variants.{WriteOccupiedHeatingSetpoint, WriteOccupiedCoolingSetpoint, WriteMinHeatSetpointLimit, WriteMaxHeatSetpointLimit, WriteMinCoolSetpointLimit, WriteMaxCoolSetpointLimit, WriteSystemMode, RaiseLowerSetpoint, OutOfBand, ArmClock, SeedEvents, Sweep, FactoryReset, Hour}
 
 abbrev pub withoutReadings : Call → Entry
 withoutReadings k = entry k noReadings
@@ -220,3 +220,35 @@ abbrev pub DefaultsAsDelivered : Type 0
 DefaultsAsDelivered =
     let o = step plant (moved plant) noReadings FactoryReset in
     (o .rec .attrs ≡ record { settings = plant .defaults; dirty = false }) × (o .order ≡ Apply 1 (at 2000) (at 2250)) × (o .notices ≡ 0xFFFF ∷ [])
+
+-- C-15. The plant's Monday: hour 6 finds its 2000 stored, so that it claims the pair and orders the plant, and records nothing; hour 18 is recorded, by the schedule
+abbrev pub atHour : Controller → ℕ → Outcome
+atHour r h = step plant r heatStarted (Hour h)
+
+abbrev pub PlantsMonday : Type 0
+PlantsMonday =
+    let morning = atHour first 6 in
+    let evening = atHour (morning .rec) 18 in
+    (morning .number ≡ 0)
+    × (morning .order ≡ Apply 1 (at 2000) (at 2250))
+    × (morning .notices ≡ 0x29 ∷ 0x1E ∷ [])
+    × (morning .rec .change ≡ record { source = 0; amount = NoAmount; timestamp = 0; attributed = Claimed (at 2000) (at 2250); armed = NoSecond })
+    × (evening .order ≡ Apply 1 (at 1700) (at 2250))
+    × (evening .notices ≡ 0x12 ∷ 0x30 ∷ 0x31 ∷ 0x32 ∷ 0x29 ∷ 0x1E ∷ [])
+    × (evening .rec .change ≡ record { source = 1; amount = Moved (hundredths (negsuc 299)); timestamp = 0; attributed = Claimed (at 1700) (at 2250); armed = NoSecond })
+    × (evening .rec .pending ≡ 0x200)
+
+-- It is the hour before that counts, not the setpoint: at 2500 hours 7, 0 and Saturday's 6 change nothing, whatever the relays do. 32 above 167
+abbrev pub Rests : ℕ → Outcome → Type 0
+Rests n o = (o .number ≡ n) × (setpoints (o .rec) ≡ pos 2500 ∷ pos 2750 ∷ []) × (o .rec .change .source ≡ 2) × (o .order ≡ NoOrder) × (o .notices ≡ [])
+
+abbrev pub OtherHoursRest : Type 0
+OtherHoursRest =
+    let r = run plant first (withoutReadings (WriteOccupiedHeatingSetpoint (at 2500)) ∷ []) in
+    (Rests 0 (atHour r 7)) × (Rests 0 (atHour r 0)) × (Rests 0 (atHour r 126)) × (Rests 32 (atHour r 168))
+
+-- limits in force clip the entry, and nothing counts as removed
+abbrev pub EntryClipped : Type 0
+EntryClipped =
+    let r = run plant first (withoutReadings (WriteMaxHeatSetpointLimit (at 1900)) ∷ []) in
+    (setpoints (atHour r 30 .rec) ≡ pos 1900 ∷ pos 2250 ∷ []) × (amounts (removed plant r heatStarted (Hour 30)) ≡ pos 0 ∷ pos 0 ∷ [])
