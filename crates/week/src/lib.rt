@@ -2,9 +2,8 @@
 mod week_table;
 
 ghost use mathlib.Core.Path.{_≡_};
-ghost use Prim.Native.Nat.{_<_};
 ghost use Rattle.model.specs.Plans.{planHour};
-ghost use Rattle.model.specs.Week.{millWeek, hourBefore, acts};
+ghost use Rattle.model.specs.Week.{millWeek, hourBefore};
 use records::Config;
 use records::Planned;
 use records::Settings;
@@ -24,16 +23,7 @@ fn hour_before(hour: usize) -> usize
     hour - 1
 }
 
-// Whether the entry differs from the hour before.
-fn is_acting(hour: usize) -> bool
-    requires { ⌜ hour < 168 ⌝ }
-    ensures { λ r. ⌜ r ≡ acts millWeek hour ⌝ }
-{
-    let before = week_table::entry(hour_before(hour));
-    !units::same(before, week_table::entry(hour))
-}
-
-// An hour that does not act is no write.
+// An hour acts where its entry differs from the hour before's; one that does not act is no write.
 pub fn hour(cfg: Config, s: Settings, number: u8) -> Planned
     ensures { λ p. ⌜ p ≡ planHour millWeek cfg s number ⌝ }
 {
@@ -44,10 +34,12 @@ pub fn hour(cfg: Config, s: Settings, number: u8) -> Planned
     if !served::serves(cfg, attribute_id::OCCUPIED_HEATING_SETPOINT) {
         return Planned::Write(writes_targets::refusal(s, answer_number::UNSERVED_ATTRIBUTE));
     }
-    if !is_acting(hour) {
+    let before = week_table::entry(hour_before(hour));
+    let v = week_table::entry(hour);
+    if units::same(before, v) {
         return Planned::NoWrite;
     }
-    let c = limits::clamp_heat_setpoint(cfg, s, units::widen(week_table::entry(hour)));
+    let c = limits::clamp_heat_setpoint(cfg, s, units::widen(v));
     let p = writes_targets::heating_to(s, Stored::Nothing, c.given);
     Planned::Write(writes_targets::from_source(p, change_source::SCHEDULE))
 }
