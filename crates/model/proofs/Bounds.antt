@@ -79,6 +79,10 @@ module _ (cfg : Config) (d : Readings) where
   heating-most source v r =
       let s = r .attrs .settings in stored-most (changedTo (s .heating) v) (changedTo (s .cooling) (coolingWithGap cfg s v)) 0x12 0x11
 
+  entry-most : (v : Hundredths) (r : Controller) → AtMost 5 (storeEntry cfg d v r .notices)
+  unfolding storeEntry
+  entry-most v r = heating-most schedule _ r
+
   cooling-most : (source : ℕ) (v : Hundredths) (r : Controller) → AtMost 5 (storeCoolingSetpoint cfg d source v r .notices)
   unfolding storeCoolingSetpoint
   cooling-most source v r =
@@ -192,7 +196,7 @@ module _ (cfg : Config) (d : Readings) where
   mode-bounded s h = (simp length-append (omega (arith, relay-most, notice-most 0x1C)), omega arith)
 
 sound-bounded : (cfg : Config) (r : Controller) (d : Readings) (k : Call) → Within (stepSound cfg r d k)
-unfolding stepSound writeOccupiedHeatingSetpoint writeOccupiedCoolingSetpoint writeMinHeatSetpointLimit writeMaxHeatSetpointLimit writeMinCoolSetpointLimit writeMaxCoolSetpointLimit writeSystemMode setControlSequenceOfOperation raiseLowerSetpoint armClock seedEvents sweep timer deadline factoryReset hour storeEntry
+unfolding stepSound writeOccupiedHeatingSetpoint writeOccupiedCoolingSetpoint writeMinHeatSetpointLimit writeMaxHeatSetpointLimit writeMinCoolSetpointLimit writeMaxCoolSetpointLimit writeSystemMode setControlSequenceOfOperation raiseLowerSetpoint armClock seedEvents sweep timer deadline factoryReset hour
 sound-bounded cfg r d (WriteOccupiedHeatingSetpoint v) = guarded _ r _ (applied-bounded cfg d _ (let m = heating-most cfg d external v r in omega arith))
 sound-bounded cfg r d (WriteOccupiedCoolingSetpoint v) = guarded _ r _ (applied-bounded cfg d _ (let m = cooling-most cfg d external v r in omega arith))
 sound-bounded cfg r d (WriteMinHeatSetpointLimit v) = guarded _ r _ (limit-bounded cfg d (withAttrs r (setMinHeat (r .attrs) v)) 0x15 (pullHeating cfg d) (pull-heat-most cfg d _))
@@ -211,7 +215,7 @@ sound-bounded cfg r d Timer = guarded _ r _ (omega arith, taken-most cfg d r)
 sound-bounded cfg r d Deadline = (omega arith, omega arith)
 sound-bounded cfg r d FactoryReset = (omega arith, omega arith)
 sound-bounded cfg r d (Hour h) =
-    guarded _ r _ (by-cond Within (acts millWeek h) _ _ (λ e. applied-bounded cfg d _ (let m = heating-most cfg d schedule (clampHeatSetpoint cfg (r .attrs .settings) (widened (millWeek h))) r in omega arith)) (λ e. quiet-bounded 0 r))
+    guarded _ r _ (by-cond Within (acts millWeek h) _ _ (λ e. applied-bounded cfg d _ (let m = entry-most cfg d (millWeek h) r in omega arith)) (λ e. quiet-bounded 0 r))
 
 pub bounded : Bounded
 unfolding step

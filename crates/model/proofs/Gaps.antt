@@ -188,19 +188,23 @@ module _ (cfg : Config) (v : Valid cfg) (d : Readings) (r : Controller) (g : Goo
   cool-limit-gap : (a : Attrs) → LimitTests cfg (a .settings) → GapKept cfg (a .settings) → (code : ℕ) → GapKept cfg (applied cfg d (andThen (limitStored cfg r a code) (pullCooling cfg d)) .rec .attrs .settings)
   cool-limit-gap a t k code = applied-gap cfg v d _ (cooling-pulled-gap cfg v d (withAttrs r a) t k)
 
-  -- an hour of any week, which ends a short gap where it acts
-  hour-gap : (w : Week) (h : ℕ) → shortGapAfter b (Hour h) ≡ cond (acts w h) false b → GapOrAllowed (Hour h) (hour w cfg r d h)
-  unfolding hour storeEntry applied askSweep
-  hour-gap w h e = guarded (Hour h) r _ _ refl refl (λ c l. by-acting (acts w h) (simp e at l))
+  -- an hour of any week that nothing refuses: it ends a short gap where it acts
+  hour-gap : (w : Week) (h : ℕ) →
+      let o = cond (acts w h) (applied cfg d (storeEntry cfg d (w h) r)) (quiet 0 r) in
+      cond (eqb (o .number) 0) (cond (acts w h) false b) b ≡ false → GapKept cfg (o .rec .attrs .settings)
+  unfolding storeEntry applied askSweep
+  hour-gap w h = by-acting (acts w h)
     where
-      by-acting : (t : Bool) → cond (eqb (cond t (applied cfg d (storeEntry cfg d (w h) r)) (quiet 0 r) .number) 0) (cond t false b) b ≡ false → GapKept cfg (cond t (applied cfg d (storeEntry cfg d (w h) r)) (quiet 0 r) .rec .attrs .settings)
+      by-acting : (t : Bool) →
+          let o = cond t (applied cfg d (storeEntry cfg d (w h) r)) (quiet 0 r) in
+          cond (eqb (o .number) 0) (cond t false b) b ≡ false → GapKept cfg (o .rec .attrs .settings)
       by-acting true l =
           let s = r .attrs .settings in
           heating-stored-gap cfg v d schedule _ r (g .placed .limits) (heat-clamped cfg s (widened (w h)) (in-force cfg s v (g .placed .limits)))
       by-acting false l = old l
 
   sound-gap : (k : Call) → GapOrAllowed k (stepSound cfg r d k)
-  unfolding stepSound writeOccupiedHeatingSetpoint writeOccupiedCoolingSetpoint writeMinHeatSetpointLimit writeMaxHeatSetpointLimit writeMinCoolSetpointLimit writeMaxCoolSetpointLimit writeSystemMode setControlSequenceOfOperation raiseLowerSetpoint armClock seedEvents sweep timer deadline applied askSweep started claimSetpoints factoryReset
+  unfolding stepSound writeOccupiedHeatingSetpoint writeOccupiedCoolingSetpoint writeMinHeatSetpointLimit writeMaxHeatSetpointLimit writeMinCoolSetpointLimit writeMaxCoolSetpointLimit writeSystemMode setControlSequenceOfOperation raiseLowerSetpoint armClock seedEvents sweep timer deadline applied askSweep started claimSetpoints factoryReset hour
   sound-gap (WriteOccupiedHeatingSetpoint x) =
       guarded (WriteOccupiedHeatingSetpoint x) r _ _ refl refl (λ c l. heating-stored-gap cfg v d external x r (g .placed .limits) (not-false (inHeatLimits cfg (r .attrs .settings) x) (c .1 .0)))
   sound-gap (WriteOccupiedCoolingSetpoint x) =
@@ -221,7 +225,7 @@ module _ (cfg : Config) (v : Valid cfg) (d : Readings) (r : Controller) (g : Goo
   sound-gap Timer = guarded Timer r _ _ refl refl (λ c l. subst (λ (a : Attrs). GapKept cfg (a .settings)) (sym (events-attrs cfg d r)) (old l))
   sound-gap Deadline = old
   sound-gap FactoryReset = λ l. repair-settled cfg v (defaultsTaken cfg (r .attrs)) .gap
-  sound-gap (Hour h) = hour-gap millWeek h refl
+  sound-gap (Hour h) = guarded (Hour h) r _ _ refl refl (λ c. hour-gap millWeek h)
 
   pub step-gap : (k : Call) → GapOrAllowed k (step cfg r d k)
   unfolding step

@@ -153,12 +153,12 @@ module _ (cfg : Config) (v : Valid cfg) (d : Readings) (r : Controller) (g : Goo
 
   -- an hour of any week
   hour-good : (w : Week) (h : ℕ) → GoodOutcome (hour w cfg r d h)
-  unfolding hour storeEntry
+  unfolding hour storeEntry askSweep
   hour-good w h =
       let s = r .attrs .settings in
       guarded _ _
       (λ c. by-cond GoodOutcome (acts w h) _ _
-      (λ e. applied-good cfg v d _ (heating-stored cfg v d schedule _ r (rest cfg r g) (g .placed .cooling) (heat-clamped cfg s (widened (w h)) (in-force cfg s v (g .placed .limits))))) (λ e. g))
+      (λ e. applied-good cfg v d _ (heating-stored cfg v d schedule _ r (rest cfg r g) (g .placed .cooling) (heat-clamped cfg s (widened (w h)) (in-force cfg s v (g .placed .limits))))) (λ e. record { placed = g .placed; mode = g .mode; last = g .last }))
 
   sound-good : (k : Call) → GoodOutcome (stepSound cfg r d k)
   unfolding stepSound writeOccupiedHeatingSetpoint writeOccupiedCoolingSetpoint writeMinHeatSetpointLimit writeMaxHeatSetpointLimit writeMinCoolSetpointLimit writeMaxCoolSetpointLimit writeSystemMode setControlSequenceOfOperation raiseLowerSetpoint armClock seedEvents sweep timer deadline soundHeating soundCooling inHeatLimits inCoolLimits minHeatSetpoint maxHeatSetpoint minCoolSetpoint maxCoolSetpoint factoryReset askSweep

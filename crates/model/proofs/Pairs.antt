@@ -192,7 +192,7 @@ module _ (cfg : Config) (ok : accepted cfg ≡ true) (d : Readings) (q r : Contr
       guarded _ _ _ _ refl
       (λ c. both-cond Both (acts w h) _ _ _ _
       (λ t. record { number = refl; limits = chained (heating-limits cfg d schedule x q) (heating-limits cfg d schedule y r) l; points = λ p. heating-points cfg d q r l schedule x y (same-clamp-heat cfg (q .attrs .settings) (r .attrs .settings) l (w h) (w h) refl) (p .cooling) })
-      (λ t. refused 0))
+      (λ t. record { number = refl; limits = l; points = λ p. p }))
 
   sound-both : (k : Call) → Both (stepSound cfg q d k) (stepSound cfg r d k)
   unfolding stepSound writeOccupiedHeatingSetpoint writeOccupiedCoolingSetpoint writeMinHeatSetpointLimit writeMaxHeatSetpointLimit writeMinCoolSetpointLimit writeMaxCoolSetpointLimit writeSystemMode setControlSequenceOfOperation raiseLowerSetpoint armClock seedEvents sweep timer deadline applied askSweep started claimSetpoints factoryReset
