@@ -16,7 +16,7 @@ use records::Planned;
 use records::Readings;
 use records::answer_number;
 
-// The calls that are neither a reset nor a write. The last arm serves the control sequence, which accepts every value and changes nothing.
+// The calls that are neither a reset nor a write. The last arm serves the control sequence, which accepts every value, and an hour that does not act: both change nothing.
 fn serve(cfg: Config, rec: Controller, d: Readings, call: Call) -> Answer
     requires { ⌜ (soundOf cfg rec ≡ true) × (planned cfg (rec .attrs .settings) call ≡ NoWrite) × (call ≡ FactoryReset → ⊥) ⌝ }
     ensures { λ q. ⌜ q ≡ answerWith (stepSound cfg rec d call) (removedWhenDone cfg (rec .attrs) call) ⌝ }

@@ -1,6 +1,6 @@
 use mathlib.Core.Path.{_∙_, ap₂, sym}
 use Rattle.model.specs.Answers.{answerWith}
-use Rattle.controller.proofs.NoWrites.{sequence-alone}
+use Rattle.controller.proofs.NoWrites.{changes-nothing}
 use Rattle.model.specs.Removed.{removedWhenDone}
 use Rattle.model.specs.Step.{stepSound}
 use Rattle.model.specs.Writes.{armClock}
@@ -35,5 +35,5 @@ serve-spec =
     (λ c. simp (c .deferred-local-temperature-deadline .ensures, c .before .enum-told5 .given .1))
     (λ c.
     let a = c .before .before in
-    let k = sequence-alone (a .args .cfg) (a .args .rec) (a .args .d) (a .args .call) (c .before .match .keys7) (a .pre .1) (a .pre .2) in
+    let k = changes-nothing (a .args .cfg) (a .args .rec) (a .args .d) (a .args .call) (c .before .match .keys7) (a .pre .1) (a .pre .2) in
     c .quiet-answer2 .ensures ∙ ap₂ answerWith (sym (k .0)) (sym (k .1))))
