@@ -323,10 +323,10 @@ BOTH, CONSOLE_ALONE, UNREADABLE = range(3)  # how a line is meant
 
 BOTH_MOVED, BOTH_HAD_MOVED, BOTH_RAISED = "both moved", "both had moved", "both raised"
 RESET, RESET_REPAIRED, RESET_OPENED = RESETS = "reset", "reset, repaired", "reset, beside an opening"
-HOUR_ACTS, HOUR_RESTS = "hour that acts", "hour that does not act"
+HOUR_ACTS, HOUR_IDLE = "hour that acts", "hour that does not act"
 LISTED = {
     HOUR_ACTS: "DIFFERENCES 12: C-15, an hour that acts, beside a heating write",
-    HOUR_RESTS: "DIFFERENCES 12: C-15, an hour that does not act",
+    HOUR_IDLE: "DIFFERENCES 12: C-15, an hour that does not act",
     32: "DIFFERENCES 12: C-15, row 32",
     RESET: "DIFFERENCES 11: C-11, reset, defaults that need no repair",
     RESET_REPAIRED: "DIFFERENCES 11: C-11, reset, defaults that need repair",
@@ -488,7 +488,7 @@ class Judge:
         if value is None:
             self.counts.hours["not acting"] += 1
             self.lost = ours != f"0 {before} {NOTHING}"
-            return "the hour does not act, and the record as it was is due" if self.lost else self.list(HOUR_RESTS, outcome(theirs))
+            return "the hour does not act, and the record as it was is due" if self.lost else self.list(HOUR_IDLE, outcome(theirs))
         if not self.held:
             return self.leave_out("record", theirs)
         if not self.level:

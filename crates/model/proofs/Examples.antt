@@ -1,7 +1,7 @@
 -- Document 01's four traps and the cases of C-12, C-14, C-20 and C-24, computed.
 use mathlib.Core.Path.{refl}
 use Rattle.model.specs.RepairedSettings.{AdjustmentActs}
-use Rattle.model.specs.Examples.{DirtyThoughUndone, EqualWriteKeepsGap, MessageWithoutOrder, ArmedSecondOnce, SameAmountForBoth, HeatingGivesWay, FirstRecordIsCoolings, PanelMovedBoth, TakenAs, FirstClampsAlone, ServedSidesAlone, DefaultsRepaired, DefaultsAsDelivered, PlantsMonday, OtherHoursRest, EntryClipped}
+use Rattle.model.specs.Examples.{DirtyThoughUndone, EqualWriteKeepsGap, MessageWithoutOrder, ArmedSecondOnce, SameAmountForBoth, HeatingGivesWay, FirstRecordIsCoolings, PanelMovedBoth, TakenAs, FirstClampsAlone, ServedSidesAlone, DefaultsRepaired, DefaultsAsDelivered, PlantsMonday, OtherHoursIdle, EntryClipped}
 use Rattle.model.specs.Everything.{everything}
 
 pub dirty-though-undone : DirtyThoughUndone
@@ -64,9 +64,9 @@ pub plants-monday : PlantsMonday
 unfolding everything
 plants-monday = (refl, refl, refl, refl, refl, refl, refl, refl)
 
-pub other-hours-rest : OtherHoursRest
+pub other-hours-idle : OtherHoursIdle
 unfolding everything
-other-hours-rest =
+other-hours-idle =
     ((refl, refl, refl, refl, refl), (refl, refl, refl, refl, refl), (refl, refl, refl, refl, refl), (refl, refl, refl, refl, refl))
 
 pub entry-clipped : EntryClipped

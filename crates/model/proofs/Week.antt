@@ -10,12 +10,12 @@ use lib.ListN.{length, getD}
 use Rattle.units.specs.declared.Hundredths.{Hundredths}
 use Rattle.records.specs.Records.{zeroHundredths}
 use Rattle.units.specs.Units.{equal}
-use Rattle.model.specs.Week.{hoursOfWeek, acts, hourRows, hour, millWeek, weekTable, listedFrom, isWorkday, hourOfDay, TableTested, EntryByRule, TableByRule, ActsAtSixAndEighteen, RestingHourChangesNothing}
+use Rattle.model.specs.Week.{hoursOfWeek, acts, hourRows, hour, millWeek, weekTable, listedFrom, isWorkday, hourOfDay, TableTested, EntryByRule, TableByRule, ActsAtSixAndEighteen, IdleHourChangesNothing}
 use Rattle.model.proofs.Logic.{accepted-clear, clear-outcome}
 
-pub resting-hour-changes-nothing : RestingHourChangesNothing
+pub idle-hour-changes-nothing : IdleHourChangesNothing
 unfolding hour
-resting-hour-changes-nothing w cfg r d h e n =
+idle-hour-changes-nothing w cfg r d h e n =
     clear-outcome (hourRows cfg h) r _ (accepted-clear (hourRows cfg h) r _ refl n) ∙ simp e
 
 -- a table that lists a rule's values has the rule's value at each place, and the other way round

@@ -239,13 +239,13 @@ PlantsMonday =
     × (evening .rec .pending ≡ 0x200)
 
 -- It is the hour before that counts, not the setpoint: at 2500 hours 7, 0 and Saturday's 6 change nothing, whatever the relays do. 32 above 167
-abbrev pub Rests : ℕ → Outcome → Type 0
-Rests n o = (o .number ≡ n) × (setpoints (o .rec) ≡ pos 2500 ∷ pos 2750 ∷ []) × (o .rec .change .source ≡ 2) × (o .order ≡ NoOrder) × (o .notices ≡ [])
+abbrev pub Idle : ℕ → Outcome → Type 0
+Idle n o = (o .number ≡ n) × (setpoints (o .rec) ≡ pos 2500 ∷ pos 2750 ∷ []) × (o .rec .change .source ≡ 2) × (o .order ≡ NoOrder) × (o .notices ≡ [])
 
-abbrev pub OtherHoursRest : Type 0
-OtherHoursRest =
+abbrev pub OtherHoursIdle : Type 0
+OtherHoursIdle =
     let r = run plant first (withoutReadings (WriteOccupiedHeatingSetpoint (at 2500)) ∷ []) in
-    (Rests 0 (atHour r 7)) × (Rests 0 (atHour r 0)) × (Rests 0 (atHour r 126)) × (Rests 32 (atHour r 168))
+    (Idle 0 (atHour r 7)) × (Idle 0 (atHour r 0)) × (Idle 0 (atHour r 126)) × (Idle 32 (atHour r 168))
 
 -- limits in force clip the entry, and nothing counts as removed
 abbrev pub EntryClipped : Type 0

@@ -49,8 +49,8 @@ unfoldable pub hour : Week → Config → Controller → Readings → ℕ → Ou
 hour w cfg r d h = unless (hourRows cfg h) r (cond (acts w h) (applied cfg d (storeEntry cfg d (w h) r)) (quiet 0 r))
 
 -- so of any week: an hour that is done and does not act leaves all as it was
-abbrev pub RestingHourChangesNothing : Type 0
-RestingHourChangesNothing =
+abbrev pub IdleHourChangesNothing : Type 0
+IdleHourChangesNothing =
     (w : Week) (cfg : Config) (r : Controller) (d : Readings) (h : ℕ) → acts w h ≡ false → hour w cfg r d h .number ≡ 0 → hour w cfg r d h ≡ quiet 0 r
 
 -- The mill's week: days 0 to 4, hours 6 to 17, stand at 2000, all else at 1700
