@@ -8,7 +8,7 @@ use units::Hundredths;
 
 // A nullable temperature: null where `given` is 0, else it is 1. There is no gap in it, so every byte has a value.
 #[repr(C)]
-#[derive(Drop)]
+#[derive(Clone, Copy)]
 pub struct NullableTemperature {
     pub hundredths: Hundredths,
     pub given: u16,

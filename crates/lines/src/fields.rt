@@ -9,7 +9,7 @@ use words::Field;
 
 // The words after the first, each at its letter's place in the row, and none where there is no word. The next word's place
 // is `next`. The row is that of no form where a word does not fit its letter.
-#[derive(Drop)]
+#[derive(Clone, Copy)]
 pub struct Fields {
     pub slots: [Number; NUMBERS],
     pub next: usize,

@@ -12,7 +12,7 @@ ghost use Rattle.lines.specs.Lines.{LineRead};
 use fields::Fields;
 use records::{Call, Config, Controller, Readings, Settings};
 
-#[derive(Drop)]
+#[derive(Clone, Copy)]
 pub enum Line {
     // Empty or a comment.
     Nothing,

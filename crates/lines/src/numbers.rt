@@ -13,7 +13,7 @@ use records::{Amount, Moment, Second, Temperature};
 use units::{Hundredths, Tenths};
 use words::Field;
 
-#[derive(Drop)]
+#[derive(Clone, Copy)]
 pub struct Number {
     pub given: bool,
     pub size: u64,

@@ -6,7 +6,7 @@ ghost use Rattle.std.proofs.Common.{SFits};
 use units::{Hundredths, Tenths};
 
 // A number that has no unit yet. The field that it is read for gives it one.
-#[derive(Drop)]
+#[derive(Clone, Copy)]
 pub struct SignedNumber(pub i16);
 
 // What 16 bits cannot hold is read as 0.

@@ -1,7 +1,7 @@
 // The program's arguments: numbers in decimal digits.
 ghost use Rattle.load.specs.Arguments.{Below};
 
-#[derive(Drop)]
+#[derive(Clone, Copy)]
 pub enum Read {
     Bad,
     Is(u64),

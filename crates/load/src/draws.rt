@@ -6,7 +6,7 @@ use records::{Call, OutOfBandMessage};
 use units::{Hundredths, Tenths};
 
 // A call, and the last seed it took.
-#[derive(Drop)]
+#[derive(Clone, Copy)]
 pub struct Drawn {
     pub seed: u32,
     pub call: Call,

@@ -7,7 +7,7 @@ use crate::draws::Drawn;
 use records::{Answer, Call, Controller, Order, answer_number};
 
 // The last seed, the record, and the totals.
-#[derive(Drop)]
+#[derive(Clone, Copy)]
 pub struct Load {
     pub seed: u32,
     pub rec: Controller,

@@ -8,7 +8,7 @@ ghost use Rattle.messages_taken.specs.Taken.{Takes};
 
 use records::{Attrs, Order, Removed, answer_number, pending_mask};
 
-#[derive(Drop)]
+#[derive(Clone, Copy)]
 pub struct Taken {
     pub number: u8,
     pub attrs: Attrs,

@@ -10,14 +10,14 @@ use records::{Attrs, Config, Removed, system_mode};
 use units::{Clamped, Wide};
 
 // The settings after a clamp of one setpoint, and the amount that it removed.
-#[derive(Drop)]
+#[derive(Clone, Copy)]
 struct ClampedSetpoint {
     attrs: Attrs,
     removed: Wide,
 }
 
 // The settings after repair, and the amounts that its first clamps removed (C-12).
-#[derive(Drop)]
+#[derive(Clone, Copy)]
 pub struct Repaired {
     pub attrs: Attrs,
     pub removed: Removed,

@@ -12,7 +12,7 @@ use records::{Config, Controller};
 pub type Held = [u8; 251];
 
 // `line` lines are read. Of the next one `held` bytes are there, and of the page `filled` bytes are written.
-#[derive(Drop)]
+#[derive(Clone, Copy)]
 pub struct Place {
     pub line: u64,
     pub held: usize,
@@ -20,7 +20,7 @@ pub struct Place {
     pub writable: bool,
 }
 
-#[derive(Drop)]
+#[derive(Clone, Copy)]
 pub struct Session {
     pub config: Config,
     pub rec: Controller,

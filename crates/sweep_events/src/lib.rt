@@ -10,7 +10,7 @@ use records::{
 use units::Hundredths;
 
 // Which changes are emitted, in the order of their events.
-#[derive(Drop)]
+#[derive(Clone, Copy)]
 pub struct Emitted {
     pub mode: bool,
     pub temperature: bool,

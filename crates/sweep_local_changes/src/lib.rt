@@ -13,7 +13,7 @@ use records::{Attributed, Config, Controller, Notices, Readings, attribute_id, c
 use units::Hundredths;
 
 // A record under way, with the notices so far.
-#[derive(Drop)]
+#[derive(Clone, Copy)]
 pub struct Stage {
     pub rec: Controller,
     pub notices: Notices,

@@ -13,7 +13,7 @@ use records::{
 };
 
 // What taking events leaves.
-#[derive(Drop)]
+#[derive(Clone, Copy)]
 pub struct Taken {
     pub rec: Controller,
     pub events: Events,

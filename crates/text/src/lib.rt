@@ -11,7 +11,7 @@ use units::{Hundredths, Wide};
 pub type Page = [u8; 65536];
 
 // What stands after a label.
-#[derive(Drop)]
+#[derive(Clone, Copy)]
 pub enum Value {
     Empty,
     // A dash.

@@ -5,7 +5,7 @@ ghost use Rattle.integers.specs.Linear.{pos_part};
 
 use units::Wide;
 
-#[derive(Drop)]
+#[derive(Clone, Copy)]
 pub struct SignMagnitude {
     pub negative: bool,
     pub magnitude: u64,

@@ -3,7 +3,7 @@ ghost use Rattle.std.specs.Prelude.{◌≡◌};
 ghost use Rattle.words.specs.Words.{appended_of, digits_of, plus_of, minus_of, is_only, field_of};
 
 // A number is a sign and a size. What is neither none, nor the mark, nor a number of 64 bits, is bad.
-#[derive(Drop)]
+#[derive(Clone, Copy)]
 pub enum Field {
     Bad,
     At,
@@ -13,7 +13,7 @@ pub enum Field {
 }
 
 // What digits spell.
-#[derive(Drop)]
+#[derive(Clone, Copy)]
 pub enum Digits {
     NoNumber,
     Size(u64),
