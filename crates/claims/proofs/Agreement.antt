@@ -3,7 +3,7 @@ use mathlib.Core.Path.{◌≡◌, refl, sym, ◌∙◌, ap, ap₂, subst}
 use mathlib.Core.Bool.{true, not, cond}
 use mathlib.Core.List.{List, [], ◌∷◌, ◌++◌, append_assoc}
 use Prim.Native.Nat.{ℕ}
-use borrow.Author.Tests.{not_false}
+use borrow.Author.Tests.{not-false}
 use Rattle.units.specs.declared.Hundredths.{Hundredths}
 use Rattle.model.specs.Answers.{Outcome}
 use Rattle.model.specs.Refusals.{Row, row}
@@ -102,7 +102,7 @@ module _ (cfg : Config) (ok : accepted cfg ≡ true) where
 
   mode_supported : (m : ℕ) (d : Readings) (q : Controller) → number cfg q (entry (WriteSystemMode m) d) ≡ 0 → is_supported_system_mode cfg m ≡ true
   unfolding step_sound write_system_mode
-  mode_supported m d q e = not_false (is_supported_system_mode cfg m) (accepted_clear (row 22 (not (is_supported_system_mode cfg m)) ∷ []) q _ refl (accepted_sound q d (WriteSystemMode m) e).1).0
+  mode_supported m d q e = not-false (is_supported_system_mode cfg m) (accepted_clear (row 22 (not (is_supported_system_mode cfg m)) ∷ []) q _ refl (accepted_sound q d (WriteSystemMode m) e).1).0
 
   mode_made : (m : ℕ) (d : Readings) (q r : Controller) → Good cfg q → Good cfg r → number cfg q (entry (WriteSystemMode m) d) ≡ 0 → (after cfg q (entry (WriteSystemMode m) d)).attrs.settings.mode ≡ (after cfg r (entry (WriteSystemMode m) d)).attrs.settings.mode
   mode_made m d q r gq gr e =

@@ -1,6 +1,6 @@
 -- A configuration is accepted exactly where no row of 1 to 21 fails; group by group.
 use mathlib.Core.Path.{◌≡◌, refl, sym, ◌∙◌}
-use mathlib.Core.Bool.{Bool, true, false, not, ◌&&◌, and_true, and_assoc, cond}
+use mathlib.Core.Bool.{Bool, true, false, not, ◌&&◌, and-true, and_assoc, cond}
 use mathlib.Core.List.{List, [], ◌∷◌, ◌++◌}
 use native.Mathlib.Omega.{arith}
 use lib.Dec.{eqb, ltb}
@@ -40,4 +40,4 @@ none_cons w v ws = refl
 
 pub none_last : (w : Row) → none_fails (w ∷ []) ≡ not w.cause
 unfolding none_fails
-none_last w = and_true (not w.cause)
+none_last w = and-true (not w.cause)

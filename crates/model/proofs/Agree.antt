@@ -4,7 +4,7 @@ use mathlib.Core.Bool.{Bool, true, false, not, ◌&&◌, cond}
 use mathlib.Core.List.{List, [], ◌∷◌}
 use Prim.Native.Nat.{ℕ}
 use lib.Dec.{eqb}
-use borrow.Author.Tests.{not_false}
+use borrow.Author.Tests.{not-false}
 use Rattle.units.specs.Units.{widened, raised}
 use Rattle.units.specs.declared.Hundredths.{Hundredths}
 use Rattle.units.specs.declared.Tenths.{Tenths}
@@ -249,6 +249,6 @@ module _ (cfg : Config) (d : Readings) where
     unfolding raise_sides names_absent_side
     raise_points v mode a z =
         let n = neither (eqb mode 0 && not (heats cfg)) (eqb mode 1 && not (cools cfg)) z in
-        both_cond PointsAlike (eqb mode 0) (raise_heating cfg d a q) _ (raise_heating cfg d a r) _ (λ e. raise_heat_points a (not_false (heats cfg) (not_both (eqb mode 0) (not (heats cfg)) n.0 e)))
-        (λ e. both_cond PointsAlike (eqb mode 1) (raise_cooling cfg d a q) _ (raise_cooling cfg d a r) _ (λ f. raise_cool_points a (not_false (cools cfg) (not_both (eqb mode 1) (not (cools cfg)) n.1 f)))
+        both_cond PointsAlike (eqb mode 0) (raise_heating cfg d a q) _ (raise_heating cfg d a r) _ (λ e. raise_heat_points a (not-false (heats cfg) (not_both (eqb mode 0) (not (heats cfg)) n.0 e)))
+        (λ e. both_cond PointsAlike (eqb mode 1) (raise_cooling cfg d a q) _ (raise_cooling cfg d a r) _ (λ f. raise_cool_points a (not-false (cools cfg) (not_both (eqb mode 1) (not (cools cfg)) n.1 f)))
         (λ f. raise_both_points v a))

@@ -18,7 +18,7 @@ use Rattle.records.specs.declared.Config.{Config}
 use Rattle.records.specs.declared.Settings.{Settings}
 use Rattle.model.proofs.Logic.{both, and_true, implied, implies}
 use Rattle.model.proofs.Valid.{Valid}
-use borrow.Author.Tests.{not_true}
+use borrow.Author.Tests.{not-true}
 
 -- over the numbers it speaks of, so that a record with other setpoints has the same one
 pub record Chain (auto : Bool) (d hl hh cl ch : ℤ) : Type 0 where
@@ -41,8 +41,8 @@ pub inside : (v lo hi : Hundredths) → within v lo hi ≡ true → (lo.0 ≤ℤ
 unfolding within less
 inside v lo hi e =
     let b = both (not (lt_z v.0 lo.0)) (not (lt_z hi.0 v.0)) e in
-    let l = not_true (lt_z v.0 lo.0) b.0 in
-    let h = not_true (lt_z hi.0 v.0) b.1 in
+    let l = not-true (lt_z v.0 lo.0) b.0 in
+    let h = not-true (lt_z hi.0 v.0) b.1 in
     (omega linear, omega linear)
 
 pub is_inside : (v lo hi : Hundredths) → lo.0 ≤ℤ v.0 → v.0 ≤ℤ hi.0 → within v lo hi ≡ true
@@ -97,7 +97,7 @@ module _ (cfg : Config) (s : Settings) where
   unfolding sound_gap
   gaps e a h =
       let b = both (not (above s.minheat (minus s.mincool (dead_band cfg)))) (not (above s.maxheat (minus s.maxcool (dead_band cfg)))) (implied (auto cfg && has_heat_limits cfg) _ e (and_true (auto cfg) (has_heat_limits cfg) a h)) in
-      (apart s.minheat s.mincool (dead_band cfg) (not_true _ b.0), apart s.maxheat s.maxcool (dead_band cfg) (not_true _ b.1))
+      (apart s.minheat s.mincool (dead_band cfg) (not-true _ b.0), apart s.maxheat s.maxcool (dead_band cfg) (not-true _ b.1))
 
   pub is_gaps : (auto cfg ≡ true → has_heat_limits cfg ≡ true → Gaps) → sound_gap cfg s ≡ true
   unfolding sound_gap

@@ -6,7 +6,7 @@ use Prim.Native.Nat.{ℕ}
 use lib.Dec.{eqb}
 use lib.IntN.{ℤ, ◌+ℤ◌, ◌-ℤ◌}
 use lib.Signed.{◌≤ℤ◌, ≤ℤ_refl}
-use borrow.Author.Tests.{not_false}
+use borrow.Author.Tests.{not-false}
 use Rattle.integers.specs.Linear.{linear, sum_parts, diff_parts}
 use Rattle.integers.specs.Clamp.{clamp_z, clamp_above, clamp_below}
 use Rattle.units.specs.Units.{plus, minus, widened, clamped}
@@ -206,9 +206,9 @@ module _ (cfg : Config) (v : Valid cfg) (d : Readings) (r : Controller) (g : Goo
   sound_gap_lem : (k : Call) → GapOrAllowed k (step_sound cfg r d k)
   unfolding step_sound write_occupied_heating_setpoint write_occupied_cooling_setpoint write_min_heat_setpoint_limit write_max_heat_setpoint_limit write_min_cool_setpoint_limit write_max_cool_setpoint_limit write_system_mode set_control_sequence_of_operation raise_lower_setpoint arm_clock seed_events sweep timer deadline applied ask_sweep started claim_setpoints factory_reset hour
   sound_gap_lem (WriteOccupiedHeatingSetpoint x) =
-      guarded (WriteOccupiedHeatingSetpoint x) r _ _ refl refl (λ c l. heating_stored_gap cfg v d external x r g.placed.limits (not_false (in_heat_limits cfg r.attrs.settings x) c.1.0))
+      guarded (WriteOccupiedHeatingSetpoint x) r _ _ refl refl (λ c l. heating_stored_gap cfg v d external x r g.placed.limits (not-false (in_heat_limits cfg r.attrs.settings x) c.1.0))
   sound_gap_lem (WriteOccupiedCoolingSetpoint x) =
-      guarded (WriteOccupiedCoolingSetpoint x) r _ _ refl refl (λ c l. cooling_stored_gap cfg v d external x r g.placed.limits (not_false (in_cool_limits cfg r.attrs.settings x) c.1.0))
+      guarded (WriteOccupiedCoolingSetpoint x) r _ _ refl refl (λ c l. cooling_stored_gap cfg v d external x r g.placed.limits (not-false (in_cool_limits cfg r.attrs.settings x) c.1.0))
   sound_gap_lem (WriteMinHeatSetpointLimit x) = guarded (WriteMinHeatSetpointLimit x) r _ _ refl refl (λ c l. heat_limit_gap (set_min_heat r.attrs x) (min_heat_tests cfg v r g x c) (old l) 0x15)
   sound_gap_lem (WriteMaxHeatSetpointLimit x) = guarded (WriteMaxHeatSetpointLimit x) r _ _ refl refl (λ c l. heat_limit_gap (set_max_heat r.attrs x) (max_heat_tests cfg v r g x c) (old l) 0x16)
   sound_gap_lem (WriteMinCoolSetpointLimit x) = guarded (WriteMinCoolSetpointLimit x) r _ _ refl refl (λ c l. cool_limit_gap (set_min_cool r.attrs x) (min_cool_tests cfg v r g x c) (old l) 0x17)

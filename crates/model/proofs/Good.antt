@@ -3,7 +3,7 @@ use mathlib.Core.Path.{◌≡◌}
 use mathlib.Core.Bool.{true, false, ◌&&◌, ◌||◌}
 use Prim.Native.Nat.{ℕ}
 use lib.Dec.{eqb, ltb}
-use borrow.Author.Tests.{not_false, ltb-false, le-leb}
+use borrow.Author.Tests.{not-false, ltb-false, le-leb}
 use Rattle.units.specs.Units.{plus, widened, raised, in_hundredths}
 use Rattle.units.specs.declared.Hundredths.{Hundredths}
 use Rattle.units.specs.declared.Tenths.{Tenths}
@@ -274,6 +274,6 @@ module _ (cfg : Config) (v : Valid cfg) (d : Readings) where
   message_good r (OccupiedCoolingSetpoint w) g = cooling_message_lem w r g
   message_good r (SystemMode m) g =
       by_unless (λ (o : Outcome). Good cfg o.rec) _ r _ (λ n. g)
-      (λ c. let k = mode_stored m r (not_false (is_supported_system_mode cfg m) c.0) g in record { placed = k.placed; mode = k.mode; last = k.last })
+      (λ c. let k = mode_stored m r (not-false (is_supported_system_mode cfg m) c.0) g in record { placed = k.placed; mode = k.mode; last = k.last })
   message_good r (SetpointLimits a b c e) g =
       let t = limits_taken cfg r.attrs a b c e in record { placed = (repair_settled cfg v t).placed; mode = repair_mode_lem cfg v t; last = g.last }

@@ -5,7 +5,7 @@ use mathlib.Core.List.{List}
 use Prim.Native.Nat.{ℕ}
 use lib.IntN.{ℤ, ◌+ℤ◌}
 use lib.Signed.{◌≤ℤ◌}
-use borrow.Author.Tests.{not_false}
+use borrow.Author.Tests.{not-false}
 use Rattle.integers.specs.Linear.{linear}
 use Rattle.units.specs.Units.{plus, minus, above, below, within, widened}
 use Rattle.units.specs.declared.Hundredths.{Hundredths}
@@ -113,29 +113,29 @@ module _ (cfg : Config) (v : Valid cfg) (a : Attrs) (x : Hundredths) (t : LimitT
 
 -- the parts of a limit write's row 22
 rule : (w : Bool) (cfg : Config) (g : Bool) → not w || (auto cfg && g) ≡ false → (w ≡ true) × (auto cfg ≡ true → g ≡ false)
-rule w cfg g e = let n = neither (not w) (auto cfg && g) e in (not_false w n.0, not_both (auto cfg) g n.1)
+rule w cfg g e = let n = neither (not w) (auto cfg && g) e in (not-false w n.0, not_both (auto cfg) g n.1)
 
 -- a limit write that nothing refuses: the tests of the limits hold with its value
 module _ (cfg : Config) (v : Valid cfg) (r : Controller) (g : Good cfg r) (x : Hundredths) where
   pub min_heat_tests : Clear (min_heat_rows cfg r.attrs.settings x) → LimitTests cfg (set_min_heat r.attrs x).settings
   min_heat_tests c =
       let w = rule _ cfg _ c.1.0 in
-      min_heat_limits cfg v r.attrs x g.placed.limits (heat_served cfg v (or_left (serves cfg 0x15) (serves cfg 0x16) (not_false (serves cfg 0x15) c.0))) w.0 w.1
+      min_heat_limits cfg v r.attrs x g.placed.limits (heat_served cfg v (or_left (serves cfg 0x15) (serves cfg 0x16) (not-false (serves cfg 0x15) c.0))) w.0 w.1
 
   pub max_heat_tests : Clear (max_heat_rows cfg r.attrs.settings x) → LimitTests cfg (set_max_heat r.attrs x).settings
   max_heat_tests c =
       let w = rule _ cfg _ c.1.0 in
-      max_heat_limits cfg v r.attrs x g.placed.limits (heat_served cfg v (or_right (serves cfg 0x15) (serves cfg 0x16) (not_false (serves cfg 0x16) c.0))) w.0 w.1
+      max_heat_limits cfg v r.attrs x g.placed.limits (heat_served cfg v (or_right (serves cfg 0x15) (serves cfg 0x16) (not-false (serves cfg 0x16) c.0))) w.0 w.1
 
   pub min_cool_tests : Clear (min_cool_rows cfg r.attrs.settings x) → LimitTests cfg (set_min_cool r.attrs x).settings
   min_cool_tests c =
       let w = rule _ cfg _ c.1.0 in
-      min_cool_limits cfg v r.attrs x g.placed.limits (cool_served cfg v (or_left (serves cfg 0x17) (serves cfg 0x18) (not_false (serves cfg 0x17) c.0))) w.0 w.1
+      min_cool_limits cfg v r.attrs x g.placed.limits (cool_served cfg v (or_left (serves cfg 0x17) (serves cfg 0x18) (not-false (serves cfg 0x17) c.0))) w.0 w.1
 
   pub max_cool_tests : Clear (max_cool_rows cfg r.attrs.settings x) → LimitTests cfg (set_max_cool r.attrs x).settings
   max_cool_tests c =
       let w = rule _ cfg _ c.1.0 in
-      max_cool_limits cfg v r.attrs x g.placed.limits (cool_served cfg v (or_right (serves cfg 0x17) (serves cfg 0x18) (not_false (serves cfg 0x18) c.0))) w.0 w.1
+      max_cool_limits cfg v r.attrs x g.placed.limits (cool_served cfg v (or_right (serves cfg 0x17) (serves cfg 0x18) (not-false (serves cfg 0x18) c.0))) w.0 w.1
 
 module _ (cfg : Config) (v : Valid cfg) (d : Readings) (r : Controller) (g : Good cfg r) where
   abbrev GoodOutcome : Outcome → Type 0
@@ -163,15 +163,15 @@ module _ (cfg : Config) (v : Valid cfg) (d : Readings) (r : Controller) (g : Goo
   sound_good : (k : Call) → GoodOutcome (step_sound cfg r d k)
   unfolding step_sound write_occupied_heating_setpoint write_occupied_cooling_setpoint write_min_heat_setpoint_limit write_max_heat_setpoint_limit write_min_cool_setpoint_limit write_max_cool_setpoint_limit write_system_mode set_control_sequence_of_operation raise_lower_setpoint arm_clock seed_events sweep timer deadline sound_heating sound_cooling in_heat_limits in_cool_limits min_heat_setpoint max_heat_setpoint min_cool_setpoint max_cool_setpoint factory_reset ask_sweep
   sound_good (WriteOccupiedHeatingSetpoint x) =
-      guarded _ _ (λ c. applied_good cfg v d _ (heating_stored cfg v d external x r (rest cfg r g) g.placed.cooling (not_false (in_heat_limits cfg r.attrs.settings x) c.1.0)))
+      guarded _ _ (λ c. applied_good cfg v d _ (heating_stored cfg v d external x r (rest cfg r g) g.placed.cooling (not-false (in_heat_limits cfg r.attrs.settings x) c.1.0)))
   sound_good (WriteOccupiedCoolingSetpoint x) =
-      guarded _ _ (λ c. applied_good cfg v d _ (cooling_stored cfg v d external x r (rest cfg r g) g.placed.heating (not_false (in_cool_limits cfg r.attrs.settings x) c.1.0)))
+      guarded _ _ (λ c. applied_good cfg v d _ (cooling_stored cfg v d external x r (rest cfg r g) g.placed.heating (not-false (in_cool_limits cfg r.attrs.settings x) c.1.0)))
   sound_good (WriteMinHeatSetpointLimit x) = guarded _ _ (λ c. heat_limit (set_min_heat r.attrs x) 0x15 (min_heat_tests cfg v r g x c) g.placed.cooling g.mode)
   sound_good (WriteMaxHeatSetpointLimit x) = guarded _ _ (λ c. heat_limit (set_max_heat r.attrs x) 0x16 (max_heat_tests cfg v r g x c) g.placed.cooling g.mode)
   sound_good (WriteMinCoolSetpointLimit x) = guarded _ _ (λ c. cool_limit (set_min_cool r.attrs x) 0x17 (min_cool_tests cfg v r g x c) g.placed.heating g.mode)
   sound_good (WriteMaxCoolSetpointLimit x) = guarded _ _ (λ c. cool_limit (set_max_cool r.attrs x) 0x18 (max_cool_tests cfg v r g x c) g.placed.heating g.mode)
   sound_good (WriteSystemMode m) =
-      guarded _ _ (λ c. applied_good cfg v d (unchanged (with_attrs r (set_mode r.attrs m))) (mode_stored cfg v d m r (not_false (is_supported_system_mode cfg m) c.0) g))
+      guarded _ _ (λ c. applied_good cfg v d (unchanged (with_attrs r (set_mode r.attrs m))) (mode_stored cfg v d m r (not-false (is_supported_system_mode cfg m) c.0) g))
   sound_good (SetControlSequenceOfOperation m) = g
   sound_good (RaiseLowerSetpoint mode amount) =
       by_unless GoodOutcome _ (armed_clock cfg d r) _ (λ n. armed_good cfg v d r g) (λ c. applied_good cfg v d _ (sides_raised cfg v d mode amount _ (armed_good cfg v d r g)))

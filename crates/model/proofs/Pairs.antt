@@ -3,7 +3,7 @@ use mathlib.Core.Path.{◌≡◌, refl, sym, ◌∙◌, subst}
 use mathlib.Core.Bool.{true, false, not}
 use mathlib.Core.List.{List, [], ◌∷◌}
 use Prim.Native.Nat.{ℕ}
-use borrow.Author.Tests.{not_false}
+use borrow.Author.Tests.{not-false}
 use Rattle.units.specs.Units.{widened}
 use Rattle.units.specs.declared.Hundredths.{Hundredths}
 use Rattle.units.specs.declared.Tenths.{Tenths}
@@ -205,19 +205,19 @@ module _ (cfg : Config) (ok : accepted cfg ≡ true) (d : Readings) (q r : Contr
   sound_both (WriteMinHeatSetpointLimit x) =
       guarded _ _ _ _ (min_heat_rows_lem x)
       (λ c. heat_limit_both (set_min_heat q.attrs x) (set_min_heat r.attrs x) 0x15 (record { minheat = refl; maxheat = l.maxheat; mincool = l.mincool; maxcool = l.maxcool }) (λ p. record { heating = p.heating; cooling = p.cooling })
-      (v.limits_heat (heat_served cfg v (or_left (serves cfg 0x15) (serves cfg 0x16) (not_false (serves cfg 0x15) c.0)))))
+      (v.limits_heat (heat_served cfg v (or_left (serves cfg 0x15) (serves cfg 0x16) (not-false (serves cfg 0x15) c.0)))))
   sound_both (WriteMaxHeatSetpointLimit x) =
       guarded _ _ _ _ (max_heat_rows_lem x)
       (λ c. heat_limit_both (set_max_heat q.attrs x) (set_max_heat r.attrs x) 0x16 (record { minheat = l.minheat; maxheat = refl; mincool = l.mincool; maxcool = l.maxcool }) (λ p. record { heating = p.heating; cooling = p.cooling })
-      (v.limits_heat (heat_served cfg v (or_right (serves cfg 0x15) (serves cfg 0x16) (not_false (serves cfg 0x16) c.0)))))
+      (v.limits_heat (heat_served cfg v (or_right (serves cfg 0x15) (serves cfg 0x16) (not-false (serves cfg 0x16) c.0)))))
   sound_both (WriteMinCoolSetpointLimit x) =
       guarded _ _ _ _ (min_cool_rows_lem x)
       (λ c. cool_limit_both (set_min_cool q.attrs x) (set_min_cool r.attrs x) 0x17 (record { minheat = l.minheat; maxheat = l.maxheat; mincool = refl; maxcool = l.maxcool }) (λ p. record { heating = p.heating; cooling = p.cooling })
-      (v.limits_cool (cool_served cfg v (or_left (serves cfg 0x17) (serves cfg 0x18) (not_false (serves cfg 0x17) c.0)))))
+      (v.limits_cool (cool_served cfg v (or_left (serves cfg 0x17) (serves cfg 0x18) (not-false (serves cfg 0x17) c.0)))))
   sound_both (WriteMaxCoolSetpointLimit x) =
       guarded _ _ _ _ (max_cool_rows_lem x)
       (λ c. cool_limit_both (set_max_cool q.attrs x) (set_max_cool r.attrs x) 0x18 (record { minheat = l.minheat; maxheat = l.maxheat; mincool = l.mincool; maxcool = refl }) (λ p. record { heating = p.heating; cooling = p.cooling })
-      (v.limits_cool (cool_served cfg v (or_right (serves cfg 0x17) (serves cfg 0x18) (not_false (serves cfg 0x18) c.0)))))
+      (v.limits_cool (cool_served cfg v (or_right (serves cfg 0x17) (serves cfg 0x18) (not-false (serves cfg 0x18) c.0)))))
   sound_both (WriteSystemMode m) =
       guarded _ _ _ _ refl
       (λ c. record {

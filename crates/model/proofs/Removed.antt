@@ -7,7 +7,7 @@ use native.Mathlib.Omega.{arith}
 use lib.Dec.{eqb, ltb}
 use lib.IntN.{ℤ, pos, ◌+ℤ◌, ◌-ℤ◌}
 use lib.Signed.{◌≤ℤ◌}
-use borrow.Author.Tests.{ltb-true, ne_eqb, not_false}
+use borrow.Author.Tests.{ltb-true, ne_eqb, not-false}
 use Rattle.integers.specs.Linear.{linear, sum_parts, diff_parts}
 use Rattle.integers.specs.Clamp.{clamp_z, max_parts, clamp_within}
 use Rattle.units.specs.Units.{plus, minus, above, below, widened, greater, clamped, asked_less_given, amount_removed}
@@ -282,10 +282,10 @@ module _ (cfg : Config) (v : Valid cfg) (r : Controller) (g : Good cfg r) where
   unfolding planned plan_heating_setpoint plan_cooling_setpoint plan_min_heat_limit plan_max_heat_limit plan_min_cool_limit plan_max_cool_limit plan_system_mode plan_raise_lower in_heat_limits in_cool_limits min_heat_setpoint max_heat_setpoint min_cool_setpoint max_cool_setpoint
   plan_pushes (WriteOccupiedHeatingSetpoint x) p e =
       subst Pushes (write_of e) (by_rows Pushes (heating_rows cfg s x) s _ (λ n. tt)
-      (λ c. cooling_push cfg v _ (points_placed cfg v s g.placed.limits x s.cooling (λ z. not_false (in_heat_limits cfg s x) c.1.0) (cooling_inside cfg s g.placed.cooling))))
+      (λ c. cooling_push cfg v _ (points_placed cfg v s g.placed.limits x s.cooling (λ z. not-false (in_heat_limits cfg s x) c.1.0) (cooling_inside cfg s g.placed.cooling))))
   plan_pushes (WriteOccupiedCoolingSetpoint x) p e =
       subst Pushes (write_of e) (by_rows Pushes (cooling_rows cfg s x) s _ (λ n. tt)
-      (λ c. heating_push cfg v _ (points_placed cfg v s g.placed.limits s.heating x (heating_inside cfg s g.placed.heating) (λ z. not_false (in_cool_limits cfg s x) c.1.0))))
+      (λ c. heating_push cfg v _ (points_placed cfg v s g.placed.limits s.heating x (heating_inside cfg s g.placed.heating) (λ z. not-false (in_cool_limits cfg s x) c.1.0))))
   plan_pushes (WriteMinHeatSetpointLimit x) p e =
       subst Pushes (write_of e) (by_rows Pushes (min_heat_rows cfg s x) s _ (λ n. tt) (λ c. heat_pull_pushes (MinHeat x) (min_heat_tests cfg v r g x c) (cooling_inside cfg s g.placed.cooling)))
   plan_pushes (WriteMaxHeatSetpointLimit x) p e =

@@ -4,7 +4,7 @@ use mathlib.Core.Bool.{Bool, true, false, not, ◌&&◌}
 use mathlib.Core.List.{◌++◌}
 use lib.IntN.{ℤ, pos, ◌+ℤ◌}
 use lib.Signed.{◌≤ℤ◌}
-use borrow.Author.Tests.{eqb-true, not_false}
+use borrow.Author.Tests.{eqb-true, not-false}
 use Rattle.integers.specs.Linear.{linear, sum_parts, diff_parts}
 use Rattle.units.specs.Units.{in_hundredths, less, minus, above}
 use Rattle.units.specs.declared.Hundredths.{Hundredths}
@@ -34,15 +34,15 @@ pub record Valid (cfg : Config) : Type 0 where
 
 -- `a && not b` false: a implies b
 then_also : (a b : Bool) → a && not b ≡ false → a ≡ true → b ≡ true
-then_also a b e f = not_false b (not_both a (not b) e f)
+then_also a b e f = not-false b (not_both a (not b) e f)
 
 -- rows 5 and 6 of an attribute: served exactly where wanted
 exactly : (wanted served : Bool) → wanted && not served ≡ false → not wanted && served ≡ false → served ≡ wanted
-exactly true served e f = not_false served e
+exactly true served e f = not-false served e
 exactly false served e f = f
 
 alike : (a b : Bool) → differ a b ≡ false → a ≡ b
-alike true b e = sym (not_false b e)
+alike true b e = sym (not-false b e)
 alike false b e = sym e
 
 module _ (cfg : Config) (ok : accepted cfg ≡ true) where
