@@ -1,4 +1,6 @@
 // model/specs/Answers and Orders: notices and events as an array and a length; the plant order, and the sweep it asks for.
+#![tactic(auto)]
+
 ghost use Rattle.std.specs.Prelude.{◌≡◌};
 ghost use Rattle.model.specs.Answers.{only_if, push as pushed, push_all, emit as emitted, emit_all, answer, quiet};
 ghost use Rattle.model.specs.Served.{noticed, emits_any};
@@ -10,6 +12,7 @@ use records::{
 };
 
 // A full array is left alone. No call gives more than it holds, so nothing is lost: law NothingLost of model.
+#[tactic(auto, unfolding(model::specs::Answers::push))]
 pub fn push(n: Notices, code: u16) -> Notices
     ensures { result ≡ pushed n code }
 {
@@ -23,6 +26,7 @@ pub fn push(n: Notices, code: u16) -> Notices
     n
 }
 
+#[tactic(auto, unfolding(model::specs::Answers::emit))]
 pub fn emit(es: Events, e: Event) -> Events
     ensures { result ≡ emitted es e }
 {
@@ -37,6 +41,7 @@ pub fn emit(es: Events, e: Event) -> Events
 }
 
 // A notice, if its attribute is served.
+#[tactic(auto, unfolding(model::specs::Answers::only_if, model::specs::Answers::push_all))]
 pub fn notify(cfg: Config, n: Notices, code: u16) -> Notices
     ensures { result ≡ push_all n (noticed cfg code) }
 {
@@ -46,6 +51,7 @@ pub fn notify(cfg: Config, n: Notices, code: u16) -> Notices
     n
 }
 
+#[tactic(auto, unfolding(model::specs::Answers::only_if, model::specs::Answers::push_all))]
 pub fn notify_if(cfg: Config, n: Notices, t: bool, code: u16) -> Notices
     ensures { result ≡ push_all n (only_if t (noticed cfg code)) }
 {
@@ -56,6 +62,7 @@ pub fn notify_if(cfg: Config, n: Notices, t: bool, code: u16) -> Notices
 }
 
 // A number and a record, and nothing else.
+#[tactic(auto, unfolding(model::specs::Answers::packed, model::specs::Answers::push_all, model::specs::Answers::packed_events, model::specs::Answers::emit_all))]
 pub fn quiet_answer(number: u8, r: Controller) -> Answer
     ensures { result ≡ answer (quiet number r) }
 {
@@ -80,6 +87,7 @@ pub fn order_of(s: Settings) -> Order
     Order::Apply(s.mode, h, c)
 }
 
+#[tactic(auto, unfolding(model::specs::Served::emits_any))]
 fn emits_any(cfg: Config) -> bool
     ensures { result ≡ emits_any cfg }
 {
@@ -87,6 +95,7 @@ fn emits_any(cfg: Config) -> bool
 }
 
 // Bit 9, if any event is served.
+#[tactic(auto, unfolding(model::specs::Orders::ask_sweep))]
 pub fn ask_sweep(cfg: Config, r: Controller) -> Controller
     ensures { result ≡ ask_sweep cfg r }
 {

@@ -1,9 +1,12 @@
 // model/specs/Served: what a configuration lists: features, attributes, events.
+#![tactic(auto)]
+
 ghost use Rattle.std.specs.Prelude.{◌≡◌, ◌&&◌};
 ghost use Rattle.model.specs.Served as spec;
 
 use records::{Config, attribute_id, feature};
 
+#[tactic(auto, unfolding(model::specs::Served::supports))]
 fn supports_feature(cfg: Config, feature: u32) -> bool
     ensures { result ≡ spec.supports cfg feature }
 {
@@ -36,6 +39,7 @@ pub fn local_temperature_not_exposed(cfg: Config) -> bool
 }
 
 // The bit of a code in a set.
+#[tactic(auto, unfolding(model::specs::Served::listed))]
 pub fn listed(set: u64, code: u16) -> bool
     ensures { result ≡ spec.listed set code }
 {
@@ -70,6 +74,7 @@ fn all_four(a: bool, b: bool, c: bool, d: bool) -> bool
 }
 
 // The four limit attributes of heating: ABS minimum and maximum, minimum and maximum.
+#[tactic(auto, unfolding(model::specs::Served::has_heat_limits))]
 pub fn has_heat_limits(cfg: Config) -> bool
     ensures { result ≡ spec.has_heat_limits cfg }
 {
@@ -81,6 +86,7 @@ pub fn has_heat_limits(cfg: Config) -> bool
     )
 }
 
+#[tactic(auto, unfolding(model::specs::Served::has_cool_limits))]
 pub fn has_cool_limits(cfg: Config) -> bool
     ensures { result ≡ spec.has_cool_limits cfg }
 {
