@@ -1,4 +1,6 @@
 // model/specs/Attribution: recording, arming, and the claimed pair.
+#![tactic(auto)]
+
 ghost use Rattle.std.specs.Prelude.{◌≡◌, cond};
 ghost use Rattle.records.specs.Records.{zero_hundredths};
 ghost use Rattle.records.specs.declared.Second.TheVariants.{NoSecond};
@@ -30,6 +32,7 @@ fn stamp(hook: Second, armed: Second) -> u32
 }
 
 // Recording always empties the armed clock.
+#[tactic(auto, unfolding(model::specs::Attribution::recorded))]
 pub fn record(
     c: SetpointChangeState,
     source: u8,
@@ -79,6 +82,7 @@ fn arm(c: SetpointChangeState, second: Second) -> SetpointChangeState
 }
 
 // It acts only if the timestamp attribute is served.
+#[tactic(auto, unfolding(model::specs::Attribution::armed_clock))]
 pub fn arm_clock(cfg: Config, d: Readings, r: Controller) -> Controller
     ensures { result ≡ armed_clock cfg d r }
 {
@@ -103,6 +107,7 @@ fn side_or_zero(t: bool, v: Hundredths) -> Hundredths
 }
 
 // An unserved side counts 0.
+#[tactic(auto, unfolding(model::specs::Attribution::served_setpoints))]
 pub fn served_setpoints(cfg: Config, s: Settings) -> Attributed
     ensures { result ≡ served_setpoints cfg s }
 {
@@ -111,6 +116,7 @@ pub fn served_setpoints(cfg: Config, s: Settings) -> Attributed
     Attributed::Claimed(h, c)
 }
 
+#[tactic(auto, unfolding(model::specs::Attribution::claim_setpoints))]
 pub fn claim_setpoints(cfg: Config, r: Controller) -> Controller
     ensures { result ≡ claim_setpoints cfg r }
 {

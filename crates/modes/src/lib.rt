@@ -1,9 +1,12 @@
 // model/specs/Modes: control sequences and supported modes; counted relays and the running mode.
+#![tactic(auto)]
+
 ghost use Rattle.std.specs.Prelude.{◌≡◌, cond};
 ghost use Rattle.model.specs.Modes.{sequence_heats, sequence_cools, is_supported_system_mode, relay_mask, running_state, running_mode};
 
 use records::{Config, control_sequence, relay, system_mode};
 
+#[tactic(auto, unfolding(model::specs::Modes::sequence_heats))]
 pub fn sequence_heats(cfg: Config) -> bool
     ensures { result ≡ sequence_heats cfg }
 {
@@ -13,6 +16,7 @@ pub fn sequence_heats(cfg: Config) -> bool
             | (s == control_sequence::COOLING_AND_HEATING_WITH_REHEAT))
 }
 
+#[tactic(auto, unfolding(model::specs::Modes::sequence_cools))]
 pub fn sequence_cools(cfg: Config) -> bool
     ensures { result ≡ sequence_cools cfg }
 {
@@ -23,6 +27,7 @@ pub fn sequence_cools(cfg: Config) -> bool
 }
 
 // Off 0, Auto 1, Cool 3, Heat 4; all others never.
+#[tactic(auto, unfolding(model::specs::Modes::is_supported_system_mode))]
 pub fn is_supported_system_mode(cfg: Config, mode: u8) -> bool
     ensures { result ≡ is_supported_system_mode cfg mode }
 {
@@ -42,6 +47,7 @@ fn bits_if(t: bool, bits: u16) -> u16
     0
 }
 
+#[tactic(auto, unfolding(model::specs::Modes::relay_mask))]
 fn relay_mask(cfg: Config) -> u16
     ensures { result ≡ relay_mask cfg }
 {
@@ -50,12 +56,14 @@ fn relay_mask(cfg: Config) -> u16
     relay::FAN_STAGES | (heat | cool)
 }
 
+#[tactic(auto, unfolding(model::specs::Modes::running_state))]
 pub fn running_state(cfg: Config, relays: u16) -> u16
     ensures { result ≡ running_state cfg relays }
 {
     relays & relay_mask(cfg)
 }
 
+#[tactic(auto, unfolding(model::specs::Modes::running_mode))]
 pub fn running_mode(counted: u16) -> u8
     ensures { result ≡ running_mode counted }
 {
