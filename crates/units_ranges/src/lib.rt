@@ -1,4 +1,6 @@
 // units/specs/Units: what lies within limits, the greater and the lesser, the nearest number within limits.
+#![tactic(auto)]
+
 ghost use Rattle.std.specs.Int.{w16};
 ghost use Rattle.std.proofs.Common.{SFits};
 ghost use Rattle.std.specs.Prelude.{◌≡◌};
@@ -7,6 +9,7 @@ ghost use Rattle.units.specs.Units.{hundredths, greater, lesser, clamped, clampi
 
 use units::{Clamped, Hundredths, Wide};
 
+#[tactic(auto, unfolding(units::specs::Units::within))]
 pub fn is_within(v: Hundredths, lo: Hundredths, hi: Hundredths) -> bool
     ensures { result ≡ within v lo hi }
 {
@@ -24,6 +27,7 @@ fn is_wide_less(a: Wide, b: Wide) -> bool
     x < y
 }
 
+#[tactic(auto, unfolding(units::specs::Units::greater, integers::specs::Clamp::max_z))]
 pub fn max(a: Wide, b: Wide) -> Wide
     ensures { result ≡ greater a b }
 {
@@ -33,6 +37,7 @@ pub fn max(a: Wide, b: Wide) -> Wide
     a
 }
 
+#[tactic(auto, unfolding(units::specs::Units::lesser, integers::specs::Clamp::min_z))]
 pub fn min(a: Wide, b: Wide) -> Wide
     ensures { result ≡ lesser a b }
 {
@@ -52,6 +57,7 @@ fn narrow(a: Wide) -> Hundredths
 }
 
 // The number nearest to `v` within the limits.
+#[tactic(auto, unfolding(units::specs::Units::above, units::specs::Units::below, units::specs::Units::clamped, integers::specs::Clamp::clamp_z))]
 fn nearest(v: Wide, lo: Hundredths, hi: Hundredths) -> Hundredths
     ensures { result ≡ clamped v lo hi }
 {
@@ -65,6 +71,7 @@ fn nearest(v: Wide, lo: Hundredths, hi: Hundredths) -> Hundredths
 }
 
 // The one clamp (C-12): what it gives, and how much of `v` that removes.
+#[tactic(auto, unfolding(units::specs::Units::amount_removed))]
 pub fn clamp(v: Wide, lo: Hundredths, hi: Hundredths) -> Clamped
     requires { Sum v }
     ensures { result ≡ clamping v lo hi }
@@ -76,6 +83,7 @@ pub fn clamp(v: Wide, lo: Hundredths, hi: Hundredths) -> Clamped
     }
 }
 
+#[tactic(auto, unfolding(units::specs::Units::saturated_difference))]
 pub fn saturating_sub(a: Hundredths, b: Hundredths) -> Hundredths
     ensures { result ≡ saturated_difference a b }
 {
