@@ -1,4 +1,6 @@
 // What a message asks for: the settings it leaves, the pending bits it sets and the amounts it removes, beside its number and plant order.
+#![tactic(auto)]
+
 ghost use Rattle.std.specs.Prelude.{◌≡◌};
 ghost use Rattle.std.specs.Int.Bits.{bit_or};
 ghost use Rattle.records.specs.Records.{with_pending};
