@@ -1,4 +1,6 @@
 // model/specs/Plans: the notices of a plan carried out.
+#![tactic(auto)]
+
 ghost use Rattle.std.specs.Prelude.{◌≡◌, not, eqb};
 ghost use Rattle.model.specs.Answers.{packed, push_all};
 ghost use Rattle.model.specs.Modes.{running_state};
@@ -8,6 +10,7 @@ ghost use Rattle.writes_notices.specs.Carried.{notices_of};
 
 use records::{Config, Notices, Readings, Settings, Stored, attribute_id};
 
+#[tactic(auto, using(model::proofs::Packing::push_none))]
 fn notify_limit(cfg: Config, n: Notices, x: Stored) -> Notices
     ensures { result ≡ push_all n (spec.limit_notices cfg x) }
 {
@@ -69,6 +72,7 @@ fn have_relays_moved(cfg: Config, d: Readings) -> bool
     before != after
 }
 
+#[tactic(auto, using(crate::proofs::Noticed::pair_noticed), unfolding(model::specs::Writes::relay_notices))]
 fn notify_relays(cfg: Config, n: Notices, d: Readings) -> Notices
     ensures { result ≡ push_all n (relay_notices cfg d) }
 {
@@ -77,6 +81,7 @@ fn notify_relays(cfg: Config, n: Notices, d: Readings) -> Notices
     answers::notify_if(cfg, m, moved, attribute_id::THERMOSTAT_RUNNING_MODE)
 }
 
+#[tactic(auto, using(model::proofs::Packing::push_none))]
 fn notify_mode(cfg: Config, n: Notices, x: Stored) -> Notices
     ensures { result ≡ push_all n (spec.mode_notices cfg x) }
 {
@@ -91,6 +96,7 @@ fn notify_mode(cfg: Config, n: Notices, x: Stored) -> Notices
 }
 
 // The limit first, the mode last.
+#[tactic(auto, using(model::proofs::Packing::push_all_append), unfolding(model::specs::Answers::packed))]
 pub fn notify_all(
     cfg: Config,
     d: Readings,
