@@ -1,4 +1,6 @@
 // model/specs/Units and Limits: the dead band; the limits in force, what lies within them, and clamping.
+#![tactic(auto)]
+
 ghost use Rattle.std.specs.Prelude.{◌≡◌};
 ghost use Rattle.units.specs.Units.{Sum};
 ghost use Rattle.model.specs.Units.{dead_band};
@@ -7,6 +9,7 @@ ghost use Rattle.model.specs.Limits.{min_heat_setpoint, max_heat_setpoint, min_c
 use records::{Config, Settings};
 use units::{Clamped, Hundredths, Wide};
 
+#[tactic(auto, unfolding(model::specs::Units::dead_band))]
 pub fn dead_band(cfg: Config) -> Hundredths
     ensures { result ≡ dead_band cfg }
 {
@@ -16,6 +19,7 @@ pub fn dead_band(cfg: Config) -> Hundredths
     Hundredths::ZERO
 }
 
+#[tactic(auto, unfolding(model::specs::Limits::min_heat_setpoint))]
 pub fn min_heat_setpoint(cfg: Config, s: Settings) -> Hundredths
     ensures { result ≡ min_heat_setpoint cfg s }
 {
@@ -25,6 +29,7 @@ pub fn min_heat_setpoint(cfg: Config, s: Settings) -> Hundredths
     cfg.absminheat
 }
 
+#[tactic(auto, unfolding(model::specs::Limits::max_heat_setpoint))]
 pub fn max_heat_setpoint(cfg: Config, s: Settings) -> Hundredths
     ensures { result ≡ max_heat_setpoint cfg s }
 {
@@ -34,6 +39,7 @@ pub fn max_heat_setpoint(cfg: Config, s: Settings) -> Hundredths
     cfg.absmaxheat
 }
 
+#[tactic(auto, unfolding(model::specs::Limits::min_cool_setpoint))]
 pub fn min_cool_setpoint(cfg: Config, s: Settings) -> Hundredths
     ensures { result ≡ min_cool_setpoint cfg s }
 {
@@ -43,6 +49,7 @@ pub fn min_cool_setpoint(cfg: Config, s: Settings) -> Hundredths
     cfg.absmincool
 }
 
+#[tactic(auto, unfolding(model::specs::Limits::max_cool_setpoint))]
 pub fn max_cool_setpoint(cfg: Config, s: Settings) -> Hundredths
     ensures { result ≡ max_cool_setpoint cfg s }
 {
@@ -52,6 +59,7 @@ pub fn max_cool_setpoint(cfg: Config, s: Settings) -> Hundredths
     cfg.absmaxcool
 }
 
+#[tactic(auto, unfolding(model::specs::Limits::in_heat_limits))]
 pub fn in_heat_limits(cfg: Config, s: Settings, v: Hundredths) -> bool
     ensures { result ≡ in_heat_limits cfg s v }
 {
@@ -60,6 +68,7 @@ pub fn in_heat_limits(cfg: Config, s: Settings, v: Hundredths) -> bool
     units_ranges::is_within(v, minheat, maxheat)
 }
 
+#[tactic(auto, unfolding(model::specs::Limits::in_cool_limits))]
 pub fn in_cool_limits(cfg: Config, s: Settings, v: Hundredths) -> bool
     ensures { result ≡ in_cool_limits cfg s v }
 {
@@ -68,6 +77,7 @@ pub fn in_cool_limits(cfg: Config, s: Settings, v: Hundredths) -> bool
     units_ranges::is_within(v, mincool, maxcool)
 }
 
+#[tactic(auto, unfolding(model::specs::Limits::clamp_heat_setpoint, model::specs::Limits::heat_removed))]
 pub fn clamp_heat_setpoint(cfg: Config, s: Settings, v: Wide) -> Clamped
     requires { Sum v }
     ensures { result ≡ clamping_heat cfg s v }
@@ -77,6 +87,7 @@ pub fn clamp_heat_setpoint(cfg: Config, s: Settings, v: Wide) -> Clamped
     units_ranges::clamp(v, minheat, maxheat)
 }
 
+#[tactic(auto, unfolding(model::specs::Limits::clamp_cool_setpoint, model::specs::Limits::cool_removed))]
 pub fn clamp_cool_setpoint(cfg: Config, s: Settings, v: Wide) -> Clamped
     requires { Sum v }
     ensures { result ≡ clamping_cool cfg s v }

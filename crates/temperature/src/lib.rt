@@ -1,4 +1,6 @@
 // model/specs/Temperature: significance, the 60-second interval, LTNE.
+#![tactic(auto)]
+
 ghost use Rattle.std.specs.Prelude.{◌≡◌, ◌-◌};
 ghost use Rattle.units.specs.Units.{apart};
 ghost use Rattle.model.specs.Temperature.{significant, interval_over, event_due, reported_temperature};
@@ -7,6 +9,7 @@ use records::{Config, Controller, Moment, Temperature};
 use units::Hundredths;
 
 // Whether two numbers differ by at least `d`.
+#[tactic(auto, unfolding(units::specs::Units::apart))]
 fn are_apart(a: Hundredths, b: Hundredths, d: Hundredths) -> bool
     ensures { result ≡ apart a b d }
 {
@@ -54,6 +57,7 @@ fn is_interval_over(last: Moment, now: u64) -> bool
     }
 }
 
+#[tactic(auto, unfolding(model::specs::Temperature::event_due))]
 pub fn local_temperature_event_due(
     previous: Temperature,
     current: Temperature,
@@ -69,6 +73,7 @@ pub fn local_temperature_event_due(
     false
 }
 
+#[tactic(auto, unfolding(model::specs::Temperature::reported_temperature))]
 pub fn reported_local_temperature(cfg: Config, reading: Temperature) -> Temperature
     ensures { result ≡ reported_temperature cfg reading }
 {

@@ -1,4 +1,6 @@
 // model/specs/Plans: the attribution of a plan carried out. What moved to its target is recorded, then the pair claimed.
+#![tactic(auto)]
+
 ghost use Rattle.std.specs.Prelude.{◌≡◌};
 ghost use Rattle.model.specs.Plans as spec;
 ghost use Rattle.model.specs.Writes.{recorded_if};
@@ -6,6 +8,7 @@ ghost use Rattle.model.specs.Writes.{recorded_if};
 use records::{Config, Plan, Readings, SetpointChangeState, Settings, Sides};
 use units::Hundredths;
 
+#[tactic(auto, unfolding(model::specs::Writes::recorded_if))]
 fn record_if(
     moved: bool,
     d: Readings,
@@ -25,6 +28,7 @@ fn record_if(
 }
 
 // Heating first: the first record takes the armed second.
+#[tactic(auto, unfolding(model::specs::Plans::moves_recorded))]
 fn record_moves(
     d: Readings,
     source: u8,
