@@ -1,4 +1,6 @@
 // model/specs/Messages and Removed: an out-of-band setpoint or mode.
+#![tactic(auto)]
+
 ghost use Rattle.std.specs.Prelude.{◌≡◌, cond};
 ghost use Rattle.records.specs.Records.{zero_wide, nothing_removed};
 ghost use Rattle.model.specs.Removed.{heating_alone, cooling_alone, heating_removed, cooling_removed};
@@ -19,6 +21,7 @@ fn amount_if(present: bool, w: Wide) -> Wide
     Wide::ZERO
 }
 
+#[tactic(auto, unfolding(model::specs::Messages::heating_message, model::specs::Removed::heating_removed))]
 pub fn heating_message(cfg: Config, a: Attrs, v: Hundredths) -> Taken
     ensures { Takes a (λ r. spec.heating_message cfg r v) (heating_alone (heating_removed cfg a.settings v)) result }
 {
@@ -35,6 +38,7 @@ pub fn heating_message(cfg: Config, a: Attrs, v: Hundredths) -> Taken
     messages_taken::take(b, pending_mask::OCCUPIED_HEATING_SETPOINT, x)
 }
 
+#[tactic(auto, unfolding(model::specs::Messages::cooling_message, model::specs::Removed::cooling_removed))]
 pub fn cooling_message(cfg: Config, a: Attrs, v: Hundredths) -> Taken
     ensures { Takes a (λ r. spec.cooling_message cfg r v) (cooling_alone (cooling_removed cfg a.settings v)) result }
 {
@@ -51,6 +55,7 @@ pub fn cooling_message(cfg: Config, a: Attrs, v: Hundredths) -> Taken
     messages_taken::take(b, pending_mask::OCCUPIED_COOLING_SETPOINT, x)
 }
 
+#[tactic(auto, unfolding(model::specs::Messages::mode_message, model::specs::Refusals::unless))]
 pub fn mode_message(cfg: Config, a: Attrs, v: u8) -> Taken
     ensures { Takes a (λ r. spec.mode_message cfg r v) nothing_removed result }
 {

@@ -1,4 +1,6 @@
 // model/specs/Repair and Removed: each step by itself, on the settings with their dirty mark.
+#![tactic(auto)]
+
 ghost use Rattle.std.specs.Prelude.{◌≡◌, ◌&&◌};
 ghost use Rattle.model.specs.Served.{auto, has_heat_limits};
 ghost use Rattle.records.specs.Records.{set_heating, set_cooling};
@@ -23,6 +25,7 @@ pub struct Repaired {
     pub removed: Removed,
 }
 
+#[tactic(auto, using(crate::proofs::Stored::stored), unfolding(model::specs::Repair::clamp_min_heat))]
 fn clamp_min_heat(cfg: Config, a: Attrs) -> Attrs
     ensures { result ≡ spec.clamp_min_heat cfg a }
 {
@@ -35,6 +38,7 @@ fn clamp_min_heat(cfg: Config, a: Attrs) -> Attrs
     a
 }
 
+#[tactic(auto, using(crate::proofs::Stored::stored), unfolding(model::specs::Repair::clamp_max_heat))]
 fn clamp_max_heat(cfg: Config, a: Attrs) -> Attrs
     ensures { result ≡ spec.clamp_max_heat cfg a }
 {
@@ -47,6 +51,7 @@ fn clamp_max_heat(cfg: Config, a: Attrs) -> Attrs
     a
 }
 
+#[tactic(auto, using(crate::proofs::Stored::stored), unfolding(model::specs::Repair::clamp_min_cool))]
 fn clamp_min_cool(cfg: Config, a: Attrs) -> Attrs
     ensures { result ≡ spec.clamp_min_cool cfg a }
 {
@@ -59,6 +64,7 @@ fn clamp_min_cool(cfg: Config, a: Attrs) -> Attrs
     a
 }
 
+#[tactic(auto, using(crate::proofs::Stored::stored), unfolding(model::specs::Repair::clamp_max_cool))]
 fn clamp_max_cool(cfg: Config, a: Attrs) -> Attrs
     ensures { result ≡ spec.clamp_max_cool cfg a }
 {
@@ -79,6 +85,7 @@ fn pulls_heat_limits(cfg: Config) -> bool
     auto & limits
 }
 
+#[tactic(auto, using(crate::proofs::Stored::stored), unfolding(model::specs::Repair::pull_min_heat))]
 fn pull_min_heat(cfg: Config, a: Attrs) -> Attrs
     ensures { result ≡ spec.pull_min_heat cfg a }
 {
@@ -92,6 +99,7 @@ fn pull_min_heat(cfg: Config, a: Attrs) -> Attrs
     a
 }
 
+#[tactic(auto, using(crate::proofs::Stored::stored), unfolding(model::specs::Repair::pull_max_heat))]
 fn pull_max_heat(cfg: Config, a: Attrs) -> Attrs
     ensures { result ≡ spec.pull_max_heat cfg a }
 {
@@ -134,6 +142,7 @@ fn store_cooling(a: Attrs, c: Clamped) -> ClampedSetpoint
     }
 }
 
+#[tactic(auto, unfolding(model::specs::Repair::clamp_heating, model::specs::Removed::heating_removed))]
 fn clamp_heating(cfg: Config, a: Attrs) -> ClampedSetpoint
     ensures { (result.attrs ≡ spec.clamp_heating cfg a) × (result.removed ≡ heating_removed cfg a.settings a.settings.heating) }
 {
@@ -147,6 +156,7 @@ fn clamp_heating(cfg: Config, a: Attrs) -> ClampedSetpoint
     }
 }
 
+#[tactic(auto, unfolding(model::specs::Repair::clamp_cooling, model::specs::Removed::cooling_removed))]
 fn clamp_cooling(cfg: Config, a: Attrs) -> ClampedSetpoint
     ensures { (result.attrs ≡ spec.clamp_cooling cfg a) × (result.removed ≡ cooling_removed cfg a.settings a.settings.cooling) }
 {
@@ -160,6 +170,7 @@ fn clamp_cooling(cfg: Config, a: Attrs) -> ClampedSetpoint
     }
 }
 
+#[tactic(auto, unfolding(model::specs::Repair::push_cooling))]
 fn push_cooling(cfg: Config, a: Attrs) -> ClampedSetpoint
     ensures { (result.attrs ≡ spec.push_cooling cfg a) × (result.removed ≡ push_removed cfg a.settings) }
 {
@@ -174,6 +185,7 @@ fn push_cooling(cfg: Config, a: Attrs) -> ClampedSetpoint
     }
 }
 
+#[tactic(auto, unfolding(model::specs::Repair::repair_mode))]
 fn repair_mode(cfg: Config, a: Attrs) -> Attrs
     ensures { result ≡ spec.repair_mode cfg a }
 {
@@ -185,6 +197,7 @@ fn repair_mode(cfg: Config, a: Attrs) -> Attrs
     records::update_attrs(a, s)
 }
 
+#[tactic(auto, unfolding(model::specs::Repair::repair_limits))]
 fn repair_limits(cfg: Config, a: Attrs) -> Attrs
     ensures { result ≡ spec.repair_limits cfg a }
 {
@@ -195,6 +208,7 @@ fn repair_limits(cfg: Config, a: Attrs) -> Attrs
 
 // Its amounts are those of the first clamps: the push cuts nothing (C-12). thermostat.rs then pulls heating down where cooling's limits leave no room;
 // on an accepted configuration they always do (C-24).
+#[tactic(auto, unfolding(model::specs::Repair::repair_setpoints))]
 fn repair_setpoints(cfg: Config, a: Attrs) -> Repaired
     ensures { (result.attrs ≡ spec.repair_setpoints cfg a) × (result.removed ≡ setpoints_removed cfg a) }
 {
@@ -214,6 +228,7 @@ fn repair_setpoints(cfg: Config, a: Attrs) -> Repaired
     }
 }
 
+#[tactic(auto, unfolding(model::specs::Repair::repaired, model::specs::Removed::repair_removed))]
 pub fn repair(cfg: Config, a: Attrs) -> Repaired
     ensures { (result.attrs ≡ spec.repaired cfg a) × (result.removed ≡ repair_removed cfg a) }
 {

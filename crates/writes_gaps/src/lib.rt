@@ -1,10 +1,13 @@
 // model/specs/Writes: the gap that AUTO keeps between the setpoints. Its clamps cut nothing (C-12), so no amount is handed on.
+#![tactic(auto)]
+
 ghost use Rattle.std.specs.Prelude.{◌≡◌};
 ghost use Rattle.model.specs.Writes as spec;
 
 use records::{Config, Settings};
 use units::Hundredths;
 
+#[tactic(auto, unfolding(model::specs::Writes::too_near_cooling))]
 fn is_too_near_cooling(cfg: Config, s: Settings, v: Hundredths) -> bool
     ensures { result ≡ spec.too_near_cooling cfg s v }
 {
@@ -13,6 +16,7 @@ fn is_too_near_cooling(cfg: Config, s: Settings, v: Hundredths) -> bool
     auto & near
 }
 
+#[tactic(auto, unfolding(model::specs::Writes::too_near_heating))]
 fn is_too_near_heating(cfg: Config, s: Settings, v: Hundredths) -> bool
     ensures { result ≡ spec.too_near_heating cfg s v }
 {
@@ -22,6 +26,7 @@ fn is_too_near_heating(cfg: Config, s: Settings, v: Hundredths) -> bool
 }
 
 // Cooling, once heating is `v`.
+#[tactic(auto, unfolding(model::specs::Writes::cooling_with_gap))]
 pub fn cooling_with_gap(cfg: Config, s: Settings, v: Hundredths) -> Hundredths
     ensures { result ≡ spec.cooling_with_gap cfg s v }
 {
@@ -33,6 +38,7 @@ pub fn cooling_with_gap(cfg: Config, s: Settings, v: Hundredths) -> Hundredths
 }
 
 // Heating, once cooling is `v`.
+#[tactic(auto, unfolding(model::specs::Writes::heating_with_gap))]
 pub fn heating_with_gap(cfg: Config, s: Settings, v: Hundredths) -> Hundredths
     ensures { result ≡ spec.heating_with_gap cfg s v }
 {
