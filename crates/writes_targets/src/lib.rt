@@ -1,4 +1,6 @@
 // model/specs/Plans: where a write sends the setpoints, and what it stores beside them.
+#![tactic(auto)]
+
 ghost use Rattle.std.specs.Prelude.{◌≡◌};
 ghost use Rattle.model.specs.Plans as spec;
 
