@@ -1,4 +1,6 @@
 // model/specs/Sweep and LocalChange: a local setpoint change is attributed.
+#![tactic(auto)]
+
 ghost use Rattle.std.specs.Prelude.{◌≡◌, ◌||◌};
 ghost use Rattle.records.specs.Records.{changed_to, with_change};
 ghost use Rattle.model.specs.Answers.{push_all, unchanged};
@@ -20,6 +22,7 @@ pub struct Stage {
 }
 
 // C-20: cooling's difference when both moved, else that of the side that moved. A side that is not served did not move.
+#[tactic(auto, using(model::proofs::LocalChange::by_heating_alone))]
 fn local_change(
     cfg: Config,
     h: Hundredths,
@@ -40,6 +43,7 @@ fn local_change(
     units_ranges::saturating_sub(c, oldc)
 }
 
+#[tactic(auto, using(model::proofs::Packing::push_all_append), unfolding(model::specs::Writes::source_notices))]
 fn notify_source_attrs(cfg: Config, n: Notices) -> Notices
     ensures { result ≡ push_all n (source_notices cfg) }
 {
@@ -71,6 +75,7 @@ fn record_local(
     Stage { rec: q, notices: m }
 }
 
+#[tactic(auto, using(model::proofs::Packing::push_none))]
 fn claim_first(r: Controller, n: Notices, pair: Attributed) -> Stage
     ensures { result ≡ staged n (unchanged (with_change r (with_attributed r.change pair))) }
 {
@@ -89,6 +94,7 @@ fn has_moved(oldh: Hundredths, oldc: Hundredths, h: Hundredths, c: Hundredths) -
     !heating | !cooling
 }
 
+#[tactic(auto, using(model::proofs::Packing::push_none))]
 fn attribute_moved(
     cfg: Config,
     d: Readings,
@@ -108,6 +114,7 @@ fn attribute_moved(
 }
 
 // With no attributed pair yet it only claims.
+#[tactic(auto, using(model::proofs::Packing::push_none))]
 fn attribute_to(
     cfg: Config,
     d: Readings,
@@ -128,6 +135,7 @@ fn attribute_to(
 }
 
 // A change that no write claimed is the device's own: Manual.
+#[tactic(auto, unfolding(model::specs::Sweep::attribute_local_setpoint_change))]
 pub fn attribute_local_setpoint_change(cfg: Config, d: Readings, r: Controller, n: Notices) -> Stage
     ensures { result ≡ staged n (spec.attribute_local_setpoint_change cfg d r) }
 {
