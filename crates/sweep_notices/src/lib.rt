@@ -1,4 +1,6 @@
 // model/specs/Sweep: the fixed notice table, walked in order.
+#![tactic(auto)]
+
 mod notice_table;
 
 ghost use Rattle.std.specs.Prelude.{◌≡◌};
@@ -15,6 +17,7 @@ pub fn is_pending(pending: u16, bit: u16) -> bool
     served::listed(pending as u64, bit)
 }
 
+#[tactic(auto, unfolding(model::specs::Answers::packed))]
 pub fn notify_pending(cfg: Config, pending: u16) -> Notices
     ensures { result ≡ packed (table_notices cfg pending notice_table) }
 {

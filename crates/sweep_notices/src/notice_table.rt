@@ -21,6 +21,7 @@ pub const PENDING_ATTRS: [u8; ROWS] = [
 ];
 
 // The pending bit of a code, by tests: a match can be compiled to a table of its own.
+#[tactic(auto, unfolding(crate::specs::NoticeTable::bit_of))]
 fn bit_of(code: u16) -> u16
     ensures { result ≡ bit_of code }
 {
