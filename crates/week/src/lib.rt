@@ -1,4 +1,6 @@
 // model/specs/Week and Plans (C-15): the mill's week, and the plan of an hour.
+#![tactic(auto)]
+
 mod week_table;
 
 ghost use Rattle.std.specs.Prelude.{◌≡◌};
@@ -19,6 +21,7 @@ fn hour_before(hour: usize) -> usize
 }
 
 // An hour acts where its entry differs from the hour before's; one that does not act is no write.
+#[tactic(auto, using(model::proofs::Logic::by_cond), unfolding(model::specs::Plans::plan_hour, model::specs::Plans::planned_unless, model::specs::Week::acts))]
 pub fn hour(cfg: Config, s: Settings, number: u8) -> Planned
     ensures { result ≡ plan_hour mill_week cfg s number }
 {

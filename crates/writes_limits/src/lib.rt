@@ -1,4 +1,6 @@
 // model/specs/Writes and Plans: when a limit write is refused, and its plan.
+#![tactic(auto)]
+
 ghost use Rattle.std.specs.Prelude.{◌≡◌};
 ghost use Rattle.model.specs.Plans as spec;
 ghost use Rattle.model.specs.Writes.{heat_limit_refused, cool_limit_refused, limit_write_rows};
@@ -38,6 +40,7 @@ fn is_cool_limit_refused(
 }
 
 // `t` has the limit in it that `stored` names.
+#[tactic(auto, unfolding(model::specs::Plans::plan_unless, model::specs::Plans::heating_pulled))]
 fn write_heat_limit(cfg: Config, t: Settings, refused: bool, code: u16, stored: Stored) -> Plan
     ensures { result ≡ spec.plan_unless (limit_write_rows cfg code refused) t (spec.heating_pulled cfg t stored) }
 {
@@ -54,6 +57,7 @@ fn write_heat_limit(cfg: Config, t: Settings, refused: bool, code: u16, stored: 
     writes_targets::heating_to(t, stored, c.given)
 }
 
+#[tactic(auto, unfolding(model::specs::Plans::plan_unless, model::specs::Plans::cooling_pulled))]
 fn write_cool_limit(cfg: Config, t: Settings, refused: bool, code: u16, stored: Stored) -> Plan
     ensures { result ≡ spec.plan_unless (limit_write_rows cfg code refused) t (spec.cooling_pulled cfg t stored) }
 {
@@ -70,6 +74,7 @@ fn write_cool_limit(cfg: Config, t: Settings, refused: bool, code: u16, stored: 
     writes_targets::cooling_to(t, stored, c.given)
 }
 
+#[tactic(auto, unfolding(model::specs::Plans::plan_min_heat_limit, model::specs::Plans::plan_unless))]
 pub fn write_min_heat_setpoint_limit(cfg: Config, s: Settings, v: Hundredths) -> Plan
     ensures { result ≡ spec.plan_min_heat_limit cfg s v }
 {
@@ -81,6 +86,7 @@ pub fn write_min_heat_setpoint_limit(cfg: Config, s: Settings, v: Hundredths) ->
     write_heat_limit(cfg, t, refused, minheat, Stored::MinHeat(v))
 }
 
+#[tactic(auto, unfolding(model::specs::Plans::plan_max_heat_limit, model::specs::Plans::plan_unless))]
 pub fn write_max_heat_setpoint_limit(cfg: Config, s: Settings, v: Hundredths) -> Plan
     ensures { result ≡ spec.plan_max_heat_limit cfg s v }
 {
@@ -92,6 +98,7 @@ pub fn write_max_heat_setpoint_limit(cfg: Config, s: Settings, v: Hundredths) ->
     write_heat_limit(cfg, t, refused, maxheat, Stored::MaxHeat(v))
 }
 
+#[tactic(auto, unfolding(model::specs::Plans::plan_min_cool_limit, model::specs::Plans::plan_unless))]
 pub fn write_min_cool_setpoint_limit(cfg: Config, s: Settings, v: Hundredths) -> Plan
     ensures { result ≡ spec.plan_min_cool_limit cfg s v }
 {
@@ -103,6 +110,7 @@ pub fn write_min_cool_setpoint_limit(cfg: Config, s: Settings, v: Hundredths) ->
     write_cool_limit(cfg, t, refused, mincool, Stored::MinCool(v))
 }
 
+#[tactic(auto, unfolding(model::specs::Plans::plan_max_cool_limit, model::specs::Plans::plan_unless))]
 pub fn write_max_cool_setpoint_limit(cfg: Config, s: Settings, v: Hundredths) -> Plan
     ensures { result ≡ spec.plan_max_cool_limit cfg s v }
 {

@@ -1,4 +1,6 @@
 // model/specs/RaiseLower and Plans: the plan of raise/lower.
+#![tactic(auto)]
+
 mod raise_both;
 
 ghost use Rattle.std.specs.Prelude.{◌≡◌};
@@ -12,12 +14,14 @@ use records::{Config, Plan, Removed, Settings, Stored, answer_number, raise_lowe
 use units::{Clamped, Hundredths, Tenths, Wide};
 
 // A setpoint moved by a signed amount of tenths, and clamped.
+#[tactic(auto, unfolding(units::specs::Units::raised))]
 fn raise(v: Hundredths, amount: Tenths, lo: Hundredths, hi: Hundredths) -> Clamped
     ensures { result ≡ clamped_to (raised v amount lo hi) (amount_removed (plus v (in_hundredths amount)) lo hi) }
 {
     units_ranges::clamp(units::add(v, units::in_hundredths(amount)), lo, hi)
 }
 
+#[tactic(auto, unfolding(model::specs::Removed::heating_raise_removed, model::specs::Limits::heat_removed))]
 fn raise_heating(cfg: Config, s: Settings, amount: Tenths) -> Clamped
     ensures { result ≡ clamped_to (raised s.heating amount (min_heat_setpoint cfg s) (max_heat_setpoint cfg s)) (heating_raise_removed cfg s amount) }
 {
@@ -29,6 +33,7 @@ fn raise_heating(cfg: Config, s: Settings, amount: Tenths) -> Clamped
     )
 }
 
+#[tactic(auto, unfolding(model::specs::Removed::cooling_raise_removed, model::specs::Limits::cool_removed))]
 fn raise_cooling(cfg: Config, s: Settings, amount: Tenths) -> Clamped
     ensures { result ≡ clamped_to (raised s.cooling amount (min_cool_setpoint cfg s) (max_cool_setpoint cfg s)) (cooling_raise_removed cfg s amount) }
 {
@@ -40,6 +45,7 @@ fn raise_cooling(cfg: Config, s: Settings, amount: Tenths) -> Clamped
     )
 }
 
+#[tactic(auto, unfolding(model::specs::RaiseLower::names_absent_side))]
 fn names_absent_side(cfg: Config, mode: u8) -> bool
     ensures { result ≡ names_absent_side cfg mode }
 {
@@ -62,6 +68,7 @@ fn removing(p: Plan, heating: Wide, cooling: Wide) -> Plan
 }
 
 // Heat 0, Cool 1, Both 2.
+#[tactic(auto, unfolding(model::specs::Plans::plan_sides))]
 fn raise_sides(cfg: Config, s: Settings, mode: u8, amount: Tenths) -> Plan
     ensures { result ≡ spec.plan_sides cfg s mode amount }
 {
@@ -90,6 +97,7 @@ fn arming(p: Plan) -> Plan
 }
 
 // It arms first, so 25 and 23 keep the newly armed clock.
+#[tactic(auto, unfolding(model::specs::Plans::plan_raise_lower, model::specs::Plans::plan_unless))]
 pub fn raise_lower_setpoint(cfg: Config, s: Settings, mode: u8, amount: Tenths) -> Plan
     ensures { result ≡ spec.plan_raise_lower cfg s mode amount }
 {

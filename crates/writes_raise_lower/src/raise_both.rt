@@ -19,6 +19,7 @@ fn passed_over(v: Hundredths) -> Clamped
     }
 }
 
+#[tactic(auto, unfolding(model::specs::RaiseBoth::heating_target))]
 pub(crate) fn heating_target(cfg: Config, s: Settings, amount: Tenths) -> Clamped
     ensures { result ≡ clamped_to (spec.heating_target cfg s amount) (both_raise_removed cfg s amount).heating }
 {
@@ -28,6 +29,7 @@ pub(crate) fn heating_target(cfg: Config, s: Settings, amount: Tenths) -> Clampe
     passed_over(s.heating)
 }
 
+#[tactic(auto, unfolding(model::specs::RaiseBoth::cooling_target))]
 pub(crate) fn cooling_target(cfg: Config, s: Settings, amount: Tenths) -> Clamped
     ensures { result ≡ clamped_to (spec.cooling_target cfg s amount) (both_raise_removed cfg s amount).cooling }
 {

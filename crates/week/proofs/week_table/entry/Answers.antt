@@ -11,9 +11,7 @@ use Rattle.records.specs.Records.{zero_hundredths}
 use Rattle.model.specs.Week.{comfort, setback, is_working_hour, mill_week, week_table}
 use Rattle.model.proofs.Logic.{by_cond}
 use Rattle.model.proofs.Week.{entry_by_rule}
-use borrow.Author.Rules.{rules}
-use Rattle.week.proofs.week_table.entry.Statement.{statement}
-use Rattle.week.proofs.week_table.entry.Tie as tie
+use Rattle.week.proofs.week_table.entry.Goals as goal
 
 -- a number as it is read back from 16 bits
 abbrev read : ℤ → Hundredths
@@ -23,11 +21,8 @@ read_back : (h : ℕ) → read (mill_week h).0 ≡ mill_week h
 unfolding mill_week
 read_back h = by_cond (λ (v : Hundredths). read v.0 ≡ v) (is_working_hour h) comfort setback (λ e. refl) (λ e. refl)
 
-returns : tie.Need-returns
+pub returns : goal.returns
 unfolding week_table
 returns c =
-    let h = c.before.args.hour in
-    ap read (get_or-map (λ (v : Hundredths). v.0) week_table h zero_hundredths ∙ ap (λ (v : Hundredths). v.0) (entry_by_rule h c.before.requires)) ∙ read_back h
-
-pub entry_spec : {M : Type 1} → statement M
-entry_spec = tie.close (tie.spec (λ c. search rules) (λ c. search rules) returns)
+    let h = c.args.hour in
+    ap read (get_or-map (λ (v : Hundredths). v.0) week_table h zero_hundredths ∙ ap (λ (v : Hundredths). v.0) (entry_by_rule h c.requires)) ∙ read_back h
