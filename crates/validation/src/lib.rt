@@ -1,4 +1,6 @@
 // model/specs/Validation: rows 1 to 21, first failure wins.
+#![tactic(auto)]
+
 ghost use Rattle.std.specs.Prelude.{◌≡◌, cond, ◌||◌};
 ghost use Rattle.model.specs.Refusals.{then_rows};
 ghost use Rattle.model.specs.Served.{supports_events, some_heat_limit, some_cool_limit};
@@ -37,6 +39,7 @@ fn any_of_four(a: bool, b: bool, c: bool, d: bool) -> bool
     c || d
 }
 
+#[tactic(auto, unfolding(model::specs::Served::some_heat_limit))]
 fn has_some_heat_limit(cfg: Config) -> bool
     ensures { result ≡ some_heat_limit cfg }
 {
@@ -48,6 +51,7 @@ fn has_some_heat_limit(cfg: Config) -> bool
     )
 }
 
+#[tactic(auto, unfolding(model::specs::Served::some_cool_limit))]
 fn has_some_cool_limit(cfg: Config) -> bool
     ensures { result ≡ some_cool_limit cfg }
 {
@@ -60,6 +64,7 @@ fn has_some_cool_limit(cfg: Config) -> bool
 }
 
 // TEVT
+#[tactic(auto, unfolding(model::specs::Served::supports))]
 fn supports_events(cfg: Config) -> bool
     ensures { result ≡ supports_events cfg }
 {
@@ -67,6 +72,7 @@ fn supports_events(cfg: Config) -> bool
 }
 
 // Rows 1 to 4.
+#[tactic(auto, unfolding(model::specs::Refusals::then_rows, model::specs::Validation::feature_rows))]
 fn validate_features(cfg: Config, rest: u8) -> u8
     ensures { result ≡ then_rows (feature_rows cfg) rest }
 {
@@ -86,6 +92,7 @@ fn validate_features(cfg: Config, rest: u8) -> u8
 }
 
 // Rows 5 and 6 of one attribute.
+#[tactic(auto, unfolding(model::specs::Refusals::then_rows))]
 fn validate_attribute(cfg: Config, code: u16, wanted: bool, rest: u8) -> u8
     ensures { result ≡ then_rows (attribute_row cfg code wanted) rest }
 {
@@ -98,6 +105,7 @@ fn validate_attribute(cfg: Config, code: u16, wanted: bool, rest: u8) -> u8
     row(answer_number::ATTRIBUTE_MISSING, wanted & !served, n6)
 }
 
+#[tactic(auto, unfolding(model::specs::Refusals::then_rows, model::specs::Validation::attribute_rows))]
 fn validate_attributes(cfg: Config, rest: u8) -> u8
     ensures { result ≡ then_rows (attribute_rows cfg) rest }
 {
@@ -113,6 +121,7 @@ fn validate_attributes(cfg: Config, rest: u8) -> u8
 }
 
 // Rows 7 to 10.
+#[tactic(auto, unfolding(model::specs::Refusals::then_rows, model::specs::Validation::limit_rows))]
 fn validate_limit_sets(cfg: Config, rest: u8) -> u8
     ensures { result ≡ then_rows (limit_rows cfg) rest }
 {
@@ -147,6 +156,7 @@ fn validate_limit_sets(cfg: Config, rest: u8) -> u8
 }
 
 // Rows 12 to 14 of one event.
+#[tactic(auto, unfolding(model::specs::Refusals::then_rows))]
 fn validate_event(cfg: Config, code: u16, applies: bool, rest: u8) -> u8
     ensures { result ≡ then_rows (event_row cfg code applies) rest }
 {
@@ -166,6 +176,7 @@ fn validate_event(cfg: Config, code: u16, applies: bool, rest: u8) -> u8
 }
 
 // Rows 11 to 15.
+#[tactic(auto, unfolding(model::specs::Refusals::then_rows, model::specs::Validation::event_rows))]
 fn validate_events(cfg: Config, rest: u8) -> u8
     ensures { result ≡ then_rows (event_rows cfg) rest }
 {
@@ -189,6 +200,7 @@ fn validate_events(cfg: Config, rest: u8) -> u8
 }
 
 // Rows 16 to 21.
+#[tactic(auto, unfolding(model::specs::Refusals::then_rows, model::specs::Validation::number_rows))]
 fn validate_numbers(cfg: Config, rest: u8) -> u8
     ensures { result ≡ then_rows (number_rows cfg) rest }
 {
@@ -215,6 +227,7 @@ fn validate_numbers(cfg: Config, rest: u8) -> u8
 }
 
 // The first failure's number, or 0.
+#[tactic(auto, using(model::proofs::Valid::validated_rows))]
 pub fn validate(cfg: Config) -> u8
     ensures { result ≡ validated cfg }
 {
