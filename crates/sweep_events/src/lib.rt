@@ -1,4 +1,6 @@
 // model/specs/Sweep: which changes since the snapshot are emitted, their events in order, and how far the snapshot moves.
+#![tactic(auto)]
+
 ghost use Rattle.std.specs.Prelude.{◌≡◌, cond, [], ◌∷◌};
 ghost use Rattle.records.specs.declared.Moment.TheVariants.{Ms};
 ghost use Rattle.model.specs.Answers.{only_if, emit_all, packed_events};
@@ -20,6 +22,7 @@ pub struct Emitted {
     pub runningmode: bool,
 }
 
+#[tactic(auto, unfolding(model::specs::Sweep::mode_emitted))]
 fn is_mode_emitted(cfg: Config, old: Snapshot, new: Snapshot) -> bool
     ensures { result ≡ spec.mode_emitted cfg old new }
 {
@@ -28,6 +31,7 @@ fn is_mode_emitted(cfg: Config, old: Snapshot, new: Snapshot) -> bool
     emits & !same
 }
 
+#[tactic(auto, unfolding(model::specs::Sweep::temperature_emitted))]
 fn is_temperature_emitted(cfg: Config, old: Snapshot, new: Snapshot, last: Moment, now: u64) -> bool
     ensures { result ≡ spec.temperature_emitted cfg old new last now }
 {
@@ -38,6 +42,7 @@ fn is_temperature_emitted(cfg: Config, old: Snapshot, new: Snapshot, last: Momen
     emits & due
 }
 
+#[tactic(auto, unfolding(model::specs::Sweep::cooling_emitted))]
 fn is_cooling_emitted(cfg: Config, old: Snapshot, new: Snapshot) -> bool
     ensures { result ≡ spec.cooling_emitted cfg old new }
 {
@@ -47,6 +52,7 @@ fn is_cooling_emitted(cfg: Config, old: Snapshot, new: Snapshot) -> bool
     emits & (cools & !same)
 }
 
+#[tactic(auto, unfolding(model::specs::Sweep::heating_emitted))]
 fn is_heating_emitted(cfg: Config, old: Snapshot, new: Snapshot) -> bool
     ensures { result ≡ spec.heating_emitted cfg old new }
 {
@@ -56,6 +62,7 @@ fn is_heating_emitted(cfg: Config, old: Snapshot, new: Snapshot) -> bool
     emits & (heats & !same)
 }
 
+#[tactic(auto, unfolding(model::specs::Sweep::relays_emitted))]
 fn is_relays_emitted(cfg: Config, old: Snapshot, new: Snapshot) -> bool
     ensures { result ≡ spec.relays_emitted cfg old new }
 {
@@ -64,6 +71,7 @@ fn is_relays_emitted(cfg: Config, old: Snapshot, new: Snapshot) -> bool
     emits & !same
 }
 
+#[tactic(auto, unfolding(model::specs::Sweep::running_mode_emitted))]
 fn is_running_mode_emitted(cfg: Config, old: Snapshot, new: Snapshot) -> bool
     ensures { result ≡ spec.running_mode_emitted cfg old new }
 {
@@ -85,6 +93,7 @@ pub fn emitted_events(cfg: Config, old: Snapshot, new: Snapshot, last: Moment, n
     }
 }
 
+#[tactic(auto, using(model::proofs::Packing::emit_none, model::proofs::Packing::emit_one), unfolding(model::specs::Answers::only_if))]
 fn emit_if(es: Events, t: bool, e: Event) -> Events
     ensures { result ≡ emit_all es (only_if t (e ∷ [])) }
 {
@@ -95,6 +104,7 @@ fn emit_if(es: Events, t: bool, e: Event) -> Events
 }
 
 // In the order mode, temperature, cooling, heating, relays, running mode.
+#[tactic(auto, using(model::proofs::Packing::emit_all_append), unfolding(model::specs::Sweep::events_of, model::specs::Answers::packed_events))]
 pub fn events_of(cfg: Config, old: Snapshot, new: Snapshot, last: Moment, now: u64) -> Events
     ensures { result ≡ packed_events (spec.events_of cfg old new last now) }
 {
@@ -179,6 +189,7 @@ fn pick_last(t: bool, now: u64, last: Moment) -> Moment
 }
 
 // Only what was emitted moves, except that both setpoints move whenever SetpointChange is served.
+#[tactic(auto, unfolding(model::specs::Sweep::committed))]
 pub fn commit(cfg: Config, old: Snapshot, new: Snapshot, last: Moment, now: u64) -> EventState
     ensures { result ≡ spec.committed cfg old new last now }
 {
