@@ -1,4 +1,6 @@
 // model/specs/Messages and Removed: out-of-band limits.
+#![tactic(auto)]
+
 ghost use Rattle.std.specs.Prelude.{◌≡◌};
 ghost use Rattle.model.specs.Removed.{repair_removed};
 ghost use Rattle.model.specs.Messages as spec;
@@ -9,6 +11,7 @@ use records::{Attrs, Config, answer_number, pending_mask};
 use units::Hundredths;
 
 // The four limits in one store.
+#[tactic(auto, unfolding(model::specs::Messages::limits_taken))]
 fn take_limits(
     cfg: Config,
     a: Attrs,
@@ -32,6 +35,7 @@ fn take_limits(
 }
 
 // The new limits may cut across the setpoints, so the settings are repaired. The message asks for a sweep, whether its plant order does or not.
+#[tactic(auto, using(crate::proofs::Bits::set_again), unfolding(model::specs::Messages::limits_message, model::specs::Orders::ask_sweep))]
 pub fn limits_message(
     cfg: Config,
     a: Attrs,

@@ -1,4 +1,6 @@
 // model/specs/Repair and Removed: repair of a record, as opening and reset make it.
+#![tactic(auto)]
+
 ghost use Rattle.std.specs.Prelude.{◌≡◌};
 ghost use Rattle.model.specs.Answers.{answer_with};
 ghost use Rattle.model.specs.Removed.{repair_removed};
@@ -7,6 +9,7 @@ ghost use Rattle.model.specs.Repair.{repaired_record};
 use records::{Answer, Attrs, Config, Controller, Events, Moment, Notices, answer_number};
 
 // No notices, whatever the relays do, and a plant order; the amounts are repair's.
+#[tactic(auto, unfolding(model::specs::Answers::packed, model::specs::Answers::push_all, model::specs::Answers::packed_events, model::specs::Answers::emit_all))]
 pub fn repair_record(cfg: Config, r: Controller, a: Attrs) -> Answer
     ensures { result ≡ answer_with (repaired_record cfg r a) (repair_removed cfg a) }
 {

@@ -1,4 +1,6 @@
 // model/specs/Plans: a plan is carried out, here alone: stores with their dirty mark, gap, attribution, claim, notices, plant order, bit 9.
+#![tactic(auto)]
+
 ghost use Rattle.std.specs.Prelude.{◌≡◌, cond};
 ghost use Rattle.model.specs.Answers.{answer_with};
 ghost use Rattle.model.specs.Attribution.{armed_clock};
@@ -60,6 +62,7 @@ fn keep_gap(cfg: Config, t: Settings, sides: Sides) -> Settings
     }
 }
 
+#[tactic(auto, unfolding(model::specs::Plans::any_moved))]
 fn has_any_moved(s: Settings, t: Settings, u: Settings) -> bool
     ensures { result ≡ spec.any_moved s t u }
 {
@@ -70,6 +73,7 @@ fn has_any_moved(s: Settings, t: Settings, u: Settings) -> bool
     (!heating | !cooling) | (!heating_kept | !cooling_kept)
 }
 
+#[tactic(auto, using(crate::proofs::Performed::performed_answer))]
 fn perform(cfg: Config, d: Readings, r: Controller, p: Plan) -> Answer
     ensures { result ≡ answer_with (spec.performed cfg d r p) p.removed }
 {
@@ -119,6 +123,7 @@ fn arm_if(arms: bool, cfg: Config, d: Readings, r: Controller) -> Controller
 }
 
 // Armed first, so a refusal keeps the newly armed clock.
+#[tactic(auto, unfolding(model::specs::Plans::carried_out, model::specs::Plans::plan_removed))]
 pub fn carry_out(cfg: Config, d: Readings, r: Controller, p: Plan) -> Answer
     ensures { result ≡ answer_with (spec.carried_out cfg d r p) (spec.plan_removed p) }
 {

@@ -1,10 +1,13 @@
 // model/specs/Plans: what each write asks for. Here the setpoint writes and the mode write; limits and raise/lower have crates of their own.
+#![tactic(auto)]
+
 ghost use Rattle.std.specs.Prelude.{◌≡◌};
 ghost use Rattle.model.specs.Plans as spec;
 
 use records::{Call, Config, Plan, Planned, Settings, Stored, answer_number, attribute_id};
 use units::Hundredths;
 
+#[tactic(auto, unfolding(model::specs::Plans::plan_heating_setpoint, model::specs::Plans::plan_unless))]
 fn write_occupied_heating_setpoint(cfg: Config, s: Settings, v: Hundredths) -> Plan
     ensures { result ≡ spec.plan_heating_setpoint cfg s v }
 {
@@ -17,6 +20,7 @@ fn write_occupied_heating_setpoint(cfg: Config, s: Settings, v: Hundredths) -> P
     writes_targets::heating_to(s, Stored::Nothing, v)
 }
 
+#[tactic(auto, unfolding(model::specs::Plans::plan_cooling_setpoint, model::specs::Plans::plan_unless))]
 fn write_occupied_cooling_setpoint(cfg: Config, s: Settings, v: Hundredths) -> Plan
     ensures { result ≡ spec.plan_cooling_setpoint cfg s v }
 {
@@ -29,6 +33,7 @@ fn write_occupied_cooling_setpoint(cfg: Config, s: Settings, v: Hundredths) -> P
     writes_targets::cooling_to(s, Stored::Nothing, v)
 }
 
+#[tactic(auto, unfolding(model::specs::Plans::plan_system_mode, model::specs::Plans::plan_unless))]
 fn write_system_mode(cfg: Config, s: Settings, v: u8) -> Plan
     ensures { result ≡ spec.plan_system_mode cfg s v }
 {
@@ -39,6 +44,7 @@ fn write_system_mode(cfg: Config, s: Settings, v: u8) -> Plan
 }
 
 // From configuration, settings and value alone.
+#[tactic(auto, unfolding(model::specs::Plans::planned))]
 pub fn plan(cfg: Config, s: Settings, call: Call) -> Planned
     ensures { result ≡ spec.planned cfg s call }
 {
