@@ -1,4 +1,6 @@
 // model/specs/Sweep: the deadline query.
+#![tactic(auto)]
+
 ghost use Rattle.std.specs.Prelude.{◌≡◌, true};
 ghost use Rattle.model.specs.Answers.{answer};
 ghost use Rattle.model.specs.Sound.{sound_last};
@@ -44,6 +46,7 @@ fn deadline_after(waiting: bool, last: Moment) -> Moment
 
 // The deadline of a temperature event that the interval holds back.
 // It is no entry for others: `step` alone calls it, on a record that has passed row 28.
+#[tactic(auto, using(model::proofs::Packing::push_none, model::proofs::Packing::emit_none), unfolding(model::specs::Sweep::deadline, model::specs::Sweep::deferred_deadline, model::specs::Answers::packed, model::specs::Answers::packed_events))]
 pub fn deferred_local_temperature_deadline(cfg: Config, r: Controller, d: Readings) -> Answer
     requires { sound_last r.events.last ≡ true }
     ensures { result ≡ answer (spec.deadline cfg r d) }
