@@ -1,10 +1,13 @@
 // model/specs/Sweep: the snapshot of what the events report, starting, and when two snapshots are equal.
+#![tactic(auto)]
+
 ghost use Rattle.std.specs.Prelude.{◌≡◌};
 ghost use Rattle.model.specs.Sweep as spec;
 
 use records::{Config, Controller, Readings, Snapshot, Temperature};
 
 // What the events report, now.
+#[tactic(auto, unfolding(model::specs::Sweep::snapshot_of))]
 pub fn snapshot(cfg: Config, d: Readings, r: Controller) -> Snapshot
     ensures { result ≡ spec.snapshot_of cfg d r }
 {
@@ -15,6 +18,7 @@ pub fn snapshot(cfg: Config, d: Readings, r: Controller) -> Snapshot
     Snapshot::current(reported, r.attrs.settings, relays, mode)
 }
 
+#[tactic(auto, unfolding(model::specs::Sweep::started))]
 pub fn start(cfg: Config, d: Readings, r: Controller) -> Controller
     ensures { result ≡ spec.started cfg d r }
 {
@@ -38,6 +42,7 @@ fn is_same_temperature(a: Temperature, b: Temperature) -> bool
     }
 }
 
+#[tactic(auto, unfolding(model::specs::Sweep::same_snapshot))]
 pub fn is_same_snapshot(a: Snapshot, b: Snapshot) -> bool
     ensures { result ≡ spec.same_snapshot a b }
 {
