@@ -1,4 +1,6 @@
 // model/specs/Validation: rows 1 to 21, all at once.
+#![tactic(auto)]
+
 ghost use Rattle.std.specs.Prelude.{◌≡◌, ◌||◌};
 ghost use Rattle.model.specs.Refusals.{none_fails};
 ghost use Rattle.model.specs.Served.{serves};
@@ -8,6 +10,7 @@ use records::{Config, attribute_id, command_id, event_id, feature};
 use units::Hundredths;
 
 // Rows 1 to 4.
+#[tactic(auto, using(model::proofs::Accepted::none_cons, model::proofs::Accepted::none_last), unfolding(model::specs::Validation::feature_rows))]
 fn accepts_features(cfg: Config) -> bool
     ensures { result ≡ none_fails (feature_rows cfg) }
 {
@@ -21,6 +24,7 @@ fn accepts_features(cfg: Config) -> bool
 }
 
 // Rows 5 and 6 of one attribute: served exactly where wanted.
+#[tactic(auto, using(crate::proofs::Flags::exactly_served))]
 fn accepts_attribute(cfg: Config, code: u16, wanted: bool) -> bool
     ensures { result ≡ none_fails (attribute_row cfg code wanted) }
 {
@@ -51,6 +55,7 @@ fn serves_some(cfg: Config, a: u16, b: u16, c: u16, d: u16) -> bool
 }
 
 // Rows 7 to 10. 7 and 8 of a side: none of its limits, or all with its feature.
+#[tactic(auto, using(model::proofs::Accepted::none_cons, model::proofs::Accepted::none_last, crate::proofs::Flags::unequal, crate::proofs::Flags::sides, crate::proofs::Flags::all_or_none), unfolding(model::specs::Validation::limit_rows, model::specs::Served::some_heat_limit, model::specs::Served::some_cool_limit, model::specs::Served::has_heat_limits, model::specs::Served::has_cool_limits))]
 fn accepts_limit_sets(cfg: Config) -> bool
     ensures { result ≡ none_fails (limit_rows cfg) }
 {
@@ -81,6 +86,7 @@ fn accepts_limit_sets(cfg: Config) -> bool
 }
 
 // Rows 12 to 14 of one event: emitted exactly where TEVT is there and it applies.
+#[tactic(auto, using(crate::proofs::Flags::exactly_emitted), unfolding(model::specs::Served::supports))]
 fn accepts_event(cfg: Config, code: u16, applies: bool) -> bool
     ensures { result ≡ none_fails (event_row cfg code applies) }
 {
@@ -108,6 +114,7 @@ fn accepts_events(cfg: Config) -> bool
 }
 
 // Rows 16 to 21.
+#[tactic(auto, using(model::proofs::Accepted::none_cons, model::proofs::Accepted::none_last, crate::proofs::Flags::unequal), unfolding(model::specs::Validation::number_rows))]
 fn accepts_numbers(cfg: Config) -> bool
     ensures { result ≡ none_fails (number_rows cfg) }
 {
@@ -127,6 +134,7 @@ fn accepts_numbers(cfg: Config) -> bool
 }
 
 // Whether no row of 1 to 21 fails. Which row fails first is the opening's question alone: crate validation.
+#[tactic(auto, using(model::proofs::Accepted::accepted_groups))]
 pub fn is_accepted(cfg: Config) -> bool
     ensures { result ≡ accepted cfg }
 {
