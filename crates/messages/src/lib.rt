@@ -1,4 +1,6 @@
 // model/specs/Messages and Removed: out-of-band messages. Each takes the settings and gives those it leaves, the pending bits it sets and the amounts it removes.
+#![tactic(auto)]
+
 ghost use Rattle.std.specs.Prelude.{◌≡◌};
 ghost use Rattle.model.specs.Answers.{answer_with};
 ghost use Rattle.model.specs.Removed.{message_removed};
@@ -40,6 +42,7 @@ fn take_message(cfg: Config, a: Attrs, m: OutOfBandMessage) -> Taken
 }
 
 // The settings go into the record, the bits to those that are pending. A refused message has no bits, and the settings as they were.
+#[tactic(auto, unfolding(model::specs::Answers::packed, model::specs::Answers::push_all, model::specs::Answers::packed_events, model::specs::Answers::emit_all))]
 pub fn out_of_band_message(cfg: Config, r: Controller, m: OutOfBandMessage) -> Answer
     ensures { result ≡ answer_with (spec.out_of_band_message cfg r m) (message_removed cfg r.attrs m) }
 {

@@ -1,4 +1,6 @@
 // model/specs/Step and Removed: opening.
+#![tactic(auto)]
+
 ghost use Rattle.std.specs.Prelude.{◌≡◌};
 ghost use Rattle.model.specs.Answers.{answer_with};
 ghost use Rattle.model.specs.Removed.{opening_removed};
@@ -7,6 +9,7 @@ ghost use Rattle.model.specs.Step.{opened};
 use records::{Answer, Attrs, Config, Controller, Settings, answer_number};
 
 // Validation, then repair of the given settings in a record otherwise blank.
+#[tactic(auto, unfolding(model::specs::Step::opened, model::specs::Removed::opening_removed, model::specs::Validation::accepted))]
 pub fn open(cfg: Config, settings: Settings) -> Answer
     ensures { result ≡ answer_with (opened cfg settings) (opening_removed cfg settings) }
 {

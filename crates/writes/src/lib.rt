@@ -73,7 +73,6 @@ fn has_any_moved(s: Settings, t: Settings, u: Settings) -> bool
     (!heating | !cooling) | (!heating_kept | !cooling_kept)
 }
 
-#[tactic(auto, using(crate::proofs::Performed::performed_answer))]
 fn perform(cfg: Config, d: Readings, r: Controller, p: Plan) -> Answer
     ensures { result ≡ answer_with (spec.performed cfg d r p) p.removed }
 {
