@@ -1,9 +1,12 @@
 // model/specs/Sound: row 28, what every record has that an opening or a call leaves.
+#![tactic(auto)]
+
 ghost use Rattle.std.specs.Prelude.{◌≡◌};
 ghost use Rattle.model.specs.Sound as spec;
 
 use records::{Config, Controller, Moment, Settings};
 
+#[tactic(auto, unfolding(model::specs::Sound::sound_heat_limits))]
 fn sound_heat_limits(cfg: Config, s: Settings) -> bool
     ensures { result ≡ spec.sound_heat_limits cfg s }
 {
@@ -13,6 +16,7 @@ fn sound_heat_limits(cfg: Config, s: Settings) -> bool
     !limits | (low & high)
 }
 
+#[tactic(auto, unfolding(model::specs::Sound::sound_cool_limits))]
 fn sound_cool_limits(cfg: Config, s: Settings) -> bool
     ensures { result ≡ spec.sound_cool_limits cfg s }
 {
@@ -22,6 +26,7 @@ fn sound_cool_limits(cfg: Config, s: Settings) -> bool
     !limits | (low & high)
 }
 
+#[tactic(auto, unfolding(model::specs::Sound::sound_gap))]
 fn sound_gap(cfg: Config, s: Settings) -> bool
     ensures { result ≡ spec.sound_gap cfg s }
 {
@@ -33,6 +38,7 @@ fn sound_gap(cfg: Config, s: Settings) -> bool
     !(auto & limits) | (!low & !high)
 }
 
+#[tactic(auto, unfolding(model::specs::Sound::sound_heating))]
 fn sound_heating(cfg: Config, s: Settings) -> bool
     ensures { result ≡ spec.sound_heating cfg s }
 {
@@ -41,6 +47,7 @@ fn sound_heating(cfg: Config, s: Settings) -> bool
     !heats | inside
 }
 
+#[tactic(auto, unfolding(model::specs::Sound::sound_cooling))]
 fn sound_cooling(cfg: Config, s: Settings) -> bool
     ensures { result ≡ spec.sound_cooling cfg s }
 {
@@ -49,6 +56,7 @@ fn sound_cooling(cfg: Config, s: Settings) -> bool
     !cools | inside
 }
 
+#[tactic(auto, unfolding(model::specs::Sound::sound_settings))]
 fn sound_settings(cfg: Config, s: Settings) -> bool
     ensures { result ≡ spec.sound_settings cfg s }
 {
@@ -70,6 +78,7 @@ fn sound_last(last: Moment) -> bool
     }
 }
 
+#[tactic(auto, unfolding(model::specs::Sound::sound))]
 pub fn is_sound(cfg: Config, r: Controller) -> bool
     ensures { result ≡ spec.sound cfg r }
 {
