@@ -1,4 +1,6 @@
 // model/specs/Sweep: taking events.
+#![tactic(auto)]
+
 ghost use Rattle.std.specs.Prelude.{◌≡◌};
 ghost use Rattle.records.specs.declared.Moment.TheVariants.{Never};
 ghost use Rattle.records.specs.declared.Order.TheVariants.{NoOrder};
@@ -19,6 +21,7 @@ pub struct Taken {
     pub events: Events,
 }
 
+#[tactic(auto, using(model::proofs::Packing::emit_none), unfolding(model::specs::Answers::packed_events))]
 fn take_since(cfg: Config, d: Readings, r: Controller, old: Snapshot) -> Taken
     ensures { result ≡ packed_taken (spec.taken_from cfg d r (Seeded old)) }
 {
@@ -43,6 +46,7 @@ fn take_since(cfg: Config, d: Readings, r: Controller, old: Snapshot) -> Taken
 }
 
 // No snapshot yet: it starts, no events.
+#[tactic(auto, using(model::proofs::Packing::emit_none), unfolding(model::specs::Answers::packed_events))]
 fn take_from(cfg: Config, d: Readings, r: Controller, s: Shadow) -> Taken
     ensures { result ≡ packed_taken (spec.taken_from cfg d r s) }
 {
@@ -59,6 +63,7 @@ fn take_from(cfg: Config, d: Readings, r: Controller, s: Shadow) -> Taken
     }
 }
 
+#[tactic(auto, unfolding(model::specs::Sweep::take_events))]
 pub fn take_events(cfg: Config, d: Readings, r: Controller) -> Taken
     ensures { result ≡ packed_taken (spec.take_events cfg d r) }
 {
