@@ -1,4 +1,6 @@
 // A word of a line after the first: none, the mark of the readings, or a decimal number.
+#![tactic(auto)]
+
 ghost use Rattle.std.specs.Prelude.{◌≡◌};
 ghost use Rattle.words.specs.Words.{appended_of, digits_of, plus_of, minus_of, is_only, field_of};
 
@@ -20,6 +22,7 @@ pub enum Digits {
 }
 
 // The number with one more digit, where the byte is a digit and 64 bits hold the number.
+#[tactic(auto, unfolding(crate::specs::Words::appended_of))]
 fn appended(size: u64, byte: u8) -> Digits
     ensures { result ≡ appended_of size byte }
 {
@@ -36,6 +39,7 @@ fn appended(size: u64, byte: u8) -> Digits
     Digits::Size(size * 10 + d)
 }
 
+#[tactic(auto, unfolding(crate::specs::Words::digits_after))]
 fn digits_of(word: &[u8]) -> Digits
     ensures { result ≡ digits_of word.now }
 {
@@ -69,6 +73,7 @@ fn minus(d: Digits) -> Field
     }
 }
 
+#[tactic(auto, unfolding(crate::specs::Words::is_only))]
 fn is_only(word: &[u8], byte: u8) -> bool
     ensures { result ≡ is_only word.now byte }
 {
@@ -78,6 +83,7 @@ fn is_only(word: &[u8], byte: u8) -> bool
     false
 }
 
+#[tactic(auto, unfolding(crate::specs::Words::field_of))]
 pub fn field_of(word: &[u8]) -> Field
     ensures { result ≡ field_of word.now }
 {
