@@ -1,4 +1,6 @@
 // A field of a line of output: a label and a value, written to a page from a place on. Answered is the place after it.
+#![tactic(auto)]
+
 mod labels;
 mod sizes;
 
@@ -95,7 +97,7 @@ fn text(out: &mut [u8], at: usize, s: &[u8]) -> usize
     requires { at + length s.now ≤ length out.old }
     ensures { result ≡ at + length s.now }
 {
-    bytes::copy(s, &mut out[at..]);
+    out[at..at + s.len()].copy_from_slice(s);
     at + s.len()
 }
 
@@ -105,10 +107,15 @@ fn label(page: &mut Page, at: usize, i: usize) -> usize
 {
     let table = labels::LABELS;
     let from = labels::start(i);
-    let end = bytes::scan::find(&table, from, from + labels::LONGEST, b'~');
-    text(page, at, &table[from..end])
+    let entry = &table[from..from + labels::LONGEST];
+    let n = entry
+        .iter()
+        .position(|b| *b == b'~')
+        .unwrap_or(labels::LONGEST);
+    text(page, at, &entry[..n])
 }
 
+#[tactic(auto, using(crate::proofs::Digits::at_most))]
 fn decimal(page: &mut Page, at: usize, n: u64) -> usize
     requires { Room at 20 }
     ensures { Within at 20 result }
@@ -118,6 +125,7 @@ fn decimal(page: &mut Page, at: usize, n: u64) -> usize
     text(page, at, &digits[..k])
 }
 
+#[tactic(auto, using(crate::proofs::Digits::at_most))]
 fn hex(page: &mut Page, at: usize, n: u64) -> usize
     requires { Room at 16 }
     ensures { Within at 16 result }
