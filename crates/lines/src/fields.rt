@@ -1,5 +1,5 @@
 // The words of a line, held to its form.
-ghost use Rattle.std.specs.Prelude.{◌≡◌, ◌<◌};
+ghost use Rattle.std.specs.Prelude.{◌≡◌, ◌<◌, ◌≤◌, length};
 ghost use Rattle.lines.specs.Numbers.{number_at};
 
 use crate::forms::NUMBERS;
@@ -58,6 +58,7 @@ impl Fields {
         m
     }
 
+    #[tactic(auto, unfolding(crate::specs::Numbers::number_at))]
     pub(crate) fn at(self, i: usize) -> Number
         ensures { result ≡ number_at self i }
     {
@@ -68,9 +69,19 @@ impl Fields {
     }
 }
 
+// The first blank from a place on, or the line's end.
+fn find_blank(line: &[u8], from: usize) -> usize
+    requires { from ≤ length line.now }
+    ensures after { from ≤ result }
+    ensures within { result ≤ length line.now }
+{
+    let rest = &line[from..];
+    from + rest.iter().position(|b| *b == b' ').unwrap_or(rest.len())
+}
+
 // Before each word after the first stands a blank.
 pub(crate) fn fields_of(line: &[u8]) -> Fields {
-    let mut at = bytes::scan::find(line, 0, line.len(), b' ');
+    let mut at = find_blank(line, 0);
     let mut f = Fields {
         slots: [Number::NONE; NUMBERS],
         next: 0,
@@ -78,7 +89,7 @@ pub(crate) fn fields_of(line: &[u8]) -> Fields {
     };
     while at < line.len() {
         let start = at + 1;
-        at = bytes::scan::find(line, start, line.len(), b' ');
+        at = find_blank(line, start);
         f = f.push(words::field_of(&line[start..at]));
     }
     f.end()

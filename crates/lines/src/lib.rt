@@ -1,4 +1,6 @@
 // What a line of the console says.
+#![tactic(auto)]
+
 mod calls;
 mod fields;
 mod forms;
