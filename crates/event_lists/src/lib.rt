@@ -1,4 +1,6 @@
 // The events of an answer.
+#![tactic(auto)]
+
 ghost use Rattle.text.specs.Pages.{Room, Within};
 
 use records::{Event, Events, Temperature};
