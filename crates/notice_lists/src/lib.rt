@@ -1,4 +1,6 @@
 // The notices of an answer.
+#![tactic(auto)]
+
 ghost use Rattle.text.specs.Pages.{Room, Within};
 
 use records::Notices;
