@@ -1,4 +1,6 @@
 // An answer as a line of output.
+#![tactic(auto)]
+
 ghost use Rattle.text.specs.Pages.{Room, Within};
 
 use records::{
