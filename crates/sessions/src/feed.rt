@@ -1,10 +1,11 @@
-// Standard input, taken apart into lines.
+// The input, taken apart into lines.
 ghost use Rattle.std.specs.Prelude.{◌≤◌, length, ◌≡◌};
 ghost use Rattle.records.specs.Records.{blank};
 ghost use Rattle.sessions.specs.Sessions.{Sound, Placed, no_config};
 
 use crate::{Held, Place, Session, places, serve};
 use records::{Config, Controller, Settings};
+use std::io::{Read, Write};
 use text::Page;
 use units::{Hundredths, Tenths};
 
@@ -59,43 +60,73 @@ fn gather(line: &mut [u8], held: usize, part: &[u8]) -> usize
     ensures { result ≤ length line.old }
 {
     let n = lesser(part.len(), line.len() - held);
-    bytes::copy(&part[0..n], &mut line[held..]);
+    line[held..held + n].copy_from_slice(&part[0..n]);
     held + n
 }
 
+// The first newline from a place on, or the chunk's end.
+fn find_newline(chunk: &[u8], from: usize) -> usize
+    requires { from ≤ length chunk.now }
+    ensures after { from ≤ result }
+    ensures within { result ≤ length chunk.now }
+{
+    let rest = &chunk[from..];
+    from + rest.iter().position(|b| *b == b'\n').unwrap_or(rest.len())
+}
+
 // Every line that ends in the chunk is served, and what follows the last newline is held.
-fn feed(s: Session, chunk: &[u8], line: &mut Held, page: &mut Page) -> Session
+fn feed<O: Write>(
+    s: Session,
+    chunk: &[u8],
+    line: &mut Held,
+    page: &mut Page,
+    output: &mut O,
+) -> Session
     requires { Sound s }
     ensures { Sound result }
 {
     let mut t = s;
     let mut at: usize = 0;
     while at < chunk.len() {
-        let end = bytes::scan::find(chunk, at, chunk.len(), b'\n');
+        let end = find_newline(chunk, at);
         let mut p = t.place;
         p.held = gather(line, p.held, &chunk[at..end]);
         t.place = p;
         if end < chunk.len() {
-            t = serve::serve(t, line, page);
+            t = serve::serve(t, line, page, output);
         }
         at = end + 1;
     }
     t
 }
 
+// A read that fails counts as the end of the input.
+fn read_some<I: Read>(input: &mut I, chunk: &mut [u8]) -> usize
+    ensures { result ≤ length chunk.new }
+{
+    match input.read(chunk) {
+        Ok(n) => n,
+        Err(_) => 0,
+    }
+}
+
 // One read after another, until nothing is read or nothing can be written. The answers of a read go out before the next may wait.
 // Nothing says that the input ends, so the turns are counted down from a number that no run uses up.
-pub(crate) fn read_all(line: &mut Held, page: &mut Page) -> Session
+pub(crate) fn read_all<I: Read, O: Write>(
+    line: &mut Held,
+    page: &mut Page,
+    input: &mut I,
+    output: &mut O,
+) -> Session
     ensures { Sound result }
 {
-    let mut chunk = io::large_buffer();
+    let mut chunk = [0u8; 65536];
     let mut s = start();
     let mut turns = u64::MAX;
     while 0 < turns {
-        let got = libc::read(libc::STDIN_FILENO, &mut chunk);
-        let n = io::count(got, &chunk);
-        s = feed(s, &chunk[..n], line, page);
-        s.place = places::flush(s.place, page);
+        let n = read_some(input, &mut chunk);
+        s = feed(s, &chunk[..n], line, page, output);
+        s.place = places::flush(s.place, page, output);
         if (n == 0) | !s.place.writable {
             return s;
         }
@@ -105,12 +136,17 @@ pub(crate) fn read_all(line: &mut Held, page: &mut Page) -> Session
 }
 
 // What is held once there is no more to read is the last line.
-pub(crate) fn serve_rest(s: Session, line: &mut Held, page: &mut Page) -> Session
+pub(crate) fn serve_rest<O: Write>(
+    s: Session,
+    line: &mut Held,
+    page: &mut Page,
+    output: &mut O,
+) -> Session
     requires { Sound s }
     ensures { (result.place.held ≡ 0) × (result.place.filled ≤ 65536) }
 {
     if 0 < s.place.held {
-        return serve::serve(s, line, page);
+        return serve::serve(s, line, page, output);
     }
     s
 }

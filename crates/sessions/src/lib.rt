@@ -1,4 +1,6 @@
-// The console's session: lines of text from standard input, an answer a line to standard output.
+// The console's session: lines of text from an input, an answer a line to an output.
+#![tactic(auto)]
+
 mod feed;
 mod places;
 mod replies;
@@ -7,6 +9,7 @@ mod serve;
 ghost use Rattle.sessions.specs.Sessions.{Placed};
 
 use records::{Config, Controller};
+use std::io::{Read, Write};
 
 // A line of more bytes than this less one is too long, so no more of it is kept.
 pub type Held = [u8; 251];
@@ -27,13 +30,13 @@ pub struct Session {
     pub place: Place,
 }
 
-// The whole of standard input. At the end no part of a line is left unserved, and no part of an answer unwritten.
-pub fn run() -> Place
+// The whole of the input. At the end no part of a line is left unserved, and no part of an answer unwritten.
+pub fn run<I: Read, O: Write>(input: &mut I, output: &mut O) -> Place
     ensures { Placed result 0 0 }
 {
     let mut line = [0u8; 251];
-    let mut page = io::large_buffer();
-    let s = feed::read_all(&mut line, &mut page);
-    let t = feed::serve_rest(s, &mut line, &mut page);
-    places::flush(t.place, &mut page)
+    let mut page = [0u8; 65536];
+    let s = feed::read_all(&mut line, &mut page, input, output);
+    let t = feed::serve_rest(s, &mut line, &mut page, output);
+    places::flush(t.place, &mut page, output)
 }

@@ -3,6 +3,7 @@ ghost use Rattle.std.specs.Prelude.{◌≡◌, ◌≤◌, length};
 ghost use Rattle.sessions.specs.Sessions.{Placed, Ready};
 
 use crate::Place;
+use std::io::Write;
 use text::Page;
 
 // The line after, where that still has a number.
@@ -23,18 +24,18 @@ pub(crate) fn next_line(p: Place) -> Place
     q
 }
 
-fn write_front(out: &[u8], n: usize) -> bool
+fn write_front<O: Write>(out: &[u8], n: usize, output: &mut O) -> bool
     requires { n ≤ length out.now }
 {
-    io::write_all(libc::STDOUT_FILENO, &out[0..n])
+    output.write_all(&out[0..n]).is_ok()
 }
 
 // What is on the page goes out.
-pub(crate) fn flush(p: Place, page: &mut Page) -> Place
+pub(crate) fn flush<O: Write>(p: Place, page: &mut Page, output: &mut O) -> Place
     requires { p.filled ≤ 65536 }
     ensures { Placed result p.held 0 }
 {
-    let is_written = write_front(page, p.filled);
+    let is_written = write_front(page, p.filled, output);
     let mut q = p;
     q.filled = 0;
     q.writable = p.writable & is_written;
@@ -42,12 +43,12 @@ pub(crate) fn flush(p: Place, page: &mut Page) -> Place
 }
 
 // The longest answer fits after this.
-pub(crate) fn make_room(p: Place, page: &mut Page) -> Place
+pub(crate) fn make_room<O: Write>(p: Place, page: &mut Page, output: &mut O) -> Place
     requires { p.filled ≤ 65536 }
     ensures { (result.held ≡ p.held) × Ready result }
 {
     if 63200 < p.filled {
-        return flush(p, page);
+        return flush(p, page, output);
     }
     p
 }
