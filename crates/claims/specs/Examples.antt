@@ -1,25 +1,17 @@
 -- Line 3 at work: lists that meet its premises on document 01's plant, on one that only heats and on one that only cools; what its premises rule
 -- out; and those of C-11 and C-15. docs/THEOREM.md describes each.
 use Rattle.std.specs.Prelude.{◌≡◌, true, false, List, [], ◌∷◌, ◌++◌, ℕ, ℤ, pos, negsuc}
-use Rattle.model.specs.Answers.{Outcome}
 use Rattle.model.specs.Validation.{accepted}
-use Rattle.model.specs.Step.{opened, step}
+use Rattle.model.specs.Step.{opened}
 use Rattle.model.specs.Plant.{at, plant, plant_settings, no_readings}
 use Rattle.model.specs.Lists.{Entry, entry, run, numbers}
 use Rattle.model.specs.Examples.{without_readings, setpoints, first}
 use Rattle.claims.specs.Claims.{limits_entry, LimitsThenWrites, ModeWritten, short_gap_allowed}
 use Rattle.records.specs.declared.Config.{Config}
 use Rattle.records.specs.declared.Settings.{Settings}
-use Rattle.records.specs.declared.Controller.{Controller}
-use Rattle.records.specs.declared.Readings.{Readings}
-use Rattle.records.specs.declared.Temperature.TheVariants.{NoReading, Reading}
+use Rattle.records.specs.declared.Temperature.TheVariants.{Reading}
 use Rattle.records.specs.declared.Second.TheVariants.{NoSecond, At}
-use Rattle.records.specs.declared.Amount.TheVariants.{NoAmount, Moved}
-use Rattle.records.specs.declared.Attributed.TheVariants.{Claimed}
-use Rattle.records.specs.declared.Event.TheVariants.{SetpointChange}
-use Rattle.records.specs.declared.Order.TheVariants.{NoOrder}
-use Rattle.records.specs.declared.OutOfBandMessage.TheVariants.{LocalTemperature, OccupiedHeatingSetpoint, OccupiedCoolingSetpoint, SetpointLimits}
-use Rattle.records.specs.declared.Call.{Call}
+use Rattle.records.specs.declared.OutOfBandMessage.TheVariants.{LocalTemperature, OccupiedHeatingSetpoint, OccupiedCoolingSetpoint}
 use Rattle.records.specs.declared.Call.TheVariants.{WriteOccupiedHeatingSetpoint, WriteOccupiedCoolingSetpoint, WriteMinHeatSetpointLimit, WriteMaxHeatSetpointLimit, WriteMinCoolSetpointLimit, WriteMaxCoolSetpointLimit, WriteSystemMode, RaiseLowerSetpoint, OutOfBand, SeedEvents, Sweep, FactoryReset, Hour}
 
 -- both controllers meet the premises on the list, the calls of both have these numbers, and both end at these setpoints
