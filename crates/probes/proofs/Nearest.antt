@@ -2,16 +2,15 @@
 use mathlib.Core.Path.{◌≡◌, refl, sym, ap, ap₂, ◌∙◌, subst}
 use mathlib.Core.Logic.{◌⊎◌, inl, inr, ⊎_elim}
 use mathlib.Core.Bool.{Bool, true, false}
-use Prim.Native.Nat.{ℕ, zero, suc, ◌+◌, ◌-◌, ◌*◌, ◌%◌, ◌≤◌, ◌<◌}
-use native.Mathlib.Nat.{add-mul, mul_comm, one-mul, mul-le-mul_right}
+use Prim.Native.Nat.{ℕ, zero, suc, ◌+◌, ◌*◌, ◌%◌, ◌≤◌, ◌<◌}
+use native.Mathlib.Nat.{add-mul, mul-le-mul_right}
 use native.Mathlib.Omega.{arith}
-use lib.IntN.{ℤ, pos, negsuc, neg_ℤ, nat_abs, ◌-ℤ◌, ◌*ℤ◌, ℤ_discrete}
-use lib.Signed.{le_z}
+use lib.IntN.{ℤ, pos, negsuc, neg_ℤ, nat_abs, ◌-ℤ◌, ◌*ℤ◌}
 use lib.Dec.{ltb}
 use borrow.Author.Tests.{ltb-true, ltb-false}
 use Rattle.integers.specs.Clamp.{by_test}
 use Rattle.integers.specs.Linear.{pos_part, neg_part, linear, diff_parts, scale_parts}
-use Rattle.probes.specs.Probes.{Fraction, signed, half_to_even, nearest_hundredths, distance, Nearest, NearestFound, NearestOnlyOne}
+use Rattle.probes.specs.Probes.{Fraction, signed, half_to_even, nearest_hundredths, distance, NearestFound, NearestOnlyOne}
 use Rattle.probes.proofs.Rounding.{gap, Close, is_close}
 
 abs_parts : (z : ℤ) → nat_abs z ≡ pos_part z + neg_part z

@@ -1,5 +1,5 @@
 -- With LTNE a probe is neither reported nor seen in an answer.
-use mathlib.Core.Path.{◌≡◌, ap}
+use mathlib.Core.Path.{ap}
 use mathlib.Core.Bool.{Bool, cond}
 use lib.Dec.{eqb}
 use Rattle.records.specs.Records.{nothing_removed}

@@ -2,9 +2,9 @@
 use mathlib.Core.Path.{◌≡◌, refl, sym, ap, ap₂, ◌∙◌, subst}
 use mathlib.Core.Bool.{Bool, true, false, not, cond, ◌&&◌}
 use Prim.Native.Nat.{ℕ, zero, suc, ◌+◌, ◌-◌, ◌*◌, ◌/◌, ◌%◌, ◌^◌, ◌≤◌, ◌<◌}
-use native.Mathlib.Nat.{mul_assoc, mul-one, one-mul, mul-le-mul, mul-le-mul_left, pow-le-pow_right, pow-succ', mod-eq_of_lt, mod-lt}
+use native.Mathlib.Nat.{mul_assoc, one-mul, mul-le-mul, pow-le-pow_right, pow-succ', mod-eq_of_lt, mod-lt}
 use native.Mathlib.Omega.{arith}
-use lib.Dec.{T, eqb, leb}
+use lib.Dec.{T, eqb}
 use lib.Pow.{pow_pos, pow-add}
 use lib.IntN.{ℤ, pos, negsuc, neg_ℤ, nat_abs, ◌-ℤ◌, +ℤ_idl}
 use lib.Signed.{le_z, ◌≤ℤ◌}
@@ -17,9 +17,8 @@ use borrow.Author.Tests.{ne_eqb, eqb-true}
 use Rattle.integers.specs.Clamp.{by_test}
 use Rattle.integers.specs.Linear.{linear, false_le_z, diff_parts}
 use Rattle.units.specs.Units.{hundredths}
-use Rattle.records.specs.declared.Temperature.{Temperature}
 use Rattle.records.specs.declared.Temperature.TheVariants.{NoReading, Reading}
-use Rattle.probes.specs.Probes.{sign_of, exponent_of, fraction_of, Fraction, Value, not_finite, exactly, signed, significand, exact_value, half_to_even, nearest_hundredths, in_range, of_value, of_pattern, of_degrees, StandsFor, ExactByStandard, EveryPattern, SubnormalsGiveZero}
+use Rattle.probes.specs.Probes.{sign_of, exponent_of, fraction_of, Value, not_finite, exactly, signed, significand, exact_value, half_to_even, nearest_hundredths, in_range, of_value, of_pattern, of_degrees, StandsFor, ExactByStandard, EveryPattern, SubnormalsGiveZero}
 use Rattle.probes.proofs.Rounding.{biased, scaled, rounds_to_0, not_below}
 use Rattle.probes.proofs.Nearest.{sign_abs}
 

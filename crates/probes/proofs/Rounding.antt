@@ -1,9 +1,8 @@
 -- Rounding to the nearest whole number, a half to the even one.
-use mathlib.Core.Path.{◌≡◌, refl, sym, ap, ap₂, ◌∙◌}
-use mathlib.Core.Logic.{◌⊎◌, inl, inr}
+use mathlib.Core.Path.{◌≡◌, refl, sym, ap, ◌∙◌}
 use mathlib.Core.Bool.{Bool, true, false, cond}
-use Prim.Native.Nat.{ℕ, zero, suc, ◌+◌, ◌-◌, ◌*◌, ◌/◌, ◌%◌, ◌^◌, ◌≤◌, ◌<◌}
-use native.Mathlib.Nat.{mod-lt, div-add-mod', suc-mul, add-mul, mul_assoc, add-zero, one-mul, mul-div-mul_right, mul-div_cancel, mul-lt-mul_of_pos_right, mul-le-mul_right, mod-eq_of_lt, div-eq_of_lt, le-div_iff_mul-le}
+use Prim.Native.Nat.{ℕ, zero, suc, ◌+◌, ◌-◌, ◌*◌, ◌/◌, ◌%◌, ◌≤◌, ◌<◌}
+use native.Mathlib.Nat.{mod-lt, div-add-mod', add-mul, mul_assoc, add-zero, one-mul, mul-div-mul_right, mul-div_cancel, mul-lt-mul_of_pos_right, mul-le-mul_right, mod-eq_of_lt, div-eq_of_lt, le-div_iff_mul-le}
 use native.Mathlib.Omega.{arith}
 use lib.Dec.{ltb}
 use lib.Arith.{digits_div, digits_mod, mod-mul}

@@ -1,10 +1,9 @@
 -- C-18: document 02's worked cases, the edges of the rule, and probes at document 01's plant, computed.
-use Rattle.std.specs.Prelude.{◌≡◌, true, List, [], ◌∷◌, map, ℕ, ◌-◌, pos, negsuc, Float}
+use Rattle.std.specs.Prelude.{◌≡◌, true, List, [], ◌∷◌, map, ℕ, ◌-◌, negsuc, Float}
 use Rattle.std.specs.Float.{binary32}
 use Rattle.std.specs.Float.Ieee as ieee
 use Rattle.units.specs.Units.{hundredths}
 use Rattle.records.specs.Records.{current_snapshot}
-use Rattle.model.specs.Answers.{Outcome}
 use Rattle.model.specs.Validation.{accepted}
 use Rattle.model.specs.Step.{opened, step}
 use Rattle.model.specs.Plant.{at, plant, plant_settings}
@@ -18,7 +17,6 @@ use Rattle.records.specs.declared.Event.TheVariants.{LocalTemperatureChange}
 use Rattle.records.specs.declared.Readings.{Readings}
 use Rattle.records.specs.declared.Probe.{Probe}
 use Rattle.records.specs.declared.Probe.TheVariants.{Absent, Fault, Degrees}
-use Rattle.records.specs.declared.Call.{Call}
 use Rattle.records.specs.declared.Call.TheVariants.{SeedEvents, Timer}
 use Rattle.probes.specs.Probes.{temperature_of, readings_of}
 

@@ -23,6 +23,7 @@ const MOST_BELOW_ZERO: u32 = 27315;
 const MOST_ABOVE_ZERO: u32 = 32767;
 
 // n / 2^k to the nearest whole number, a half to the even one: just under a half is added, and where the quotient is odd a half.
+#[tactic(auto, using(crate::proofs::Patterns::half_under, crate::proofs::Patterns::half_fits, crate::proofs::Patterns::rounded))]
 fn nearest(n: u32, k: u32) -> u32
     requires n_bound { n < 2147483648 }
     requires k_nonzero { 0 < k }
@@ -35,6 +36,7 @@ fn nearest(n: u32, k: u32) -> u32
 }
 
 // The hundredths nearest to a float without its sign.
+#[tactic(auto, using(crate::proofs::Patterns::too_small, crate::proofs::Patterns::shifted))]
 fn magnitude(exponent: u32, fraction: u32) -> u32
     requires exponent_bound { exponent ≤ 149 }
     requires fraction_bound { fraction < 8388608 }
@@ -50,6 +52,7 @@ fn magnitude(exponent: u32, fraction: u32) -> u32
 }
 
 // The range is tested on the rounded number.
+#[tactic(auto, using(crate::proofs::Patterns::inside, crate::proofs::Patterns::inside_below, crate::proofs::Patterns::outside_below, crate::proofs::Patterns::outside_above))]
 fn in_range(negative: bool, n: u32) -> Temperature
     ensures { result ≡ in_range (signed negative n) }
 {
@@ -66,6 +69,7 @@ fn in_range(negative: bool, n: u32) -> Temperature
 }
 
 // Exponent 255, an infinity or a NaN, is out of range too.
+#[tactic(auto, using(crate::proofs::Patterns::by_size, crate::proofs::Patterns::too_large))]
 fn of_pattern(bits: u32) -> Temperature
     ensures { result ≡ of_pattern bits }
 {
@@ -77,6 +81,7 @@ fn of_pattern(bits: u32) -> Temperature
 }
 
 // A NaN has no bits to look at.
+#[tactic(auto, using(crate::proofs::Patterns::differs, crate::proofs::Patterns::has_bits, crate::proofs::Patterns::by_bits))]
 pub(crate) fn of_degrees(x: f32) -> Temperature
     ensures { result ≡ of_degrees x }
 {

@@ -1,4 +1,6 @@
 // specs/Probes (C-18): what a probe delivers, as a reading of a call.
+#![tactic(auto)]
+
 mod degrees;
 
 ghost use Rattle.std.specs.Prelude.{◌≡◌};
