@@ -1,4 +1,6 @@
-// What C and Rust link: functions over plain numbers, exported by `rt staticlib embedding`.
+// What C and Rust link, through crate embedding_c: functions over plain numbers.
+#![tactic(auto)]
+
 ghost use Rattle.std.specs.Prelude.{◌≡◌};
 ghost use Rattle.probes.specs.Probes.{temperature_of};
 ghost use Rattle.embedding.specs.Numbers.{in_numbers};
@@ -30,8 +32,7 @@ fn in_numbers(t: Temperature) -> NullableTemperature
 }
 
 // C-18: what a probe's degrees give.
-#[unsafe(no_mangle)]
-pub extern "C" fn thermostat_probe_degrees(degrees: f32) -> NullableTemperature
+pub fn thermostat_probe_degrees(degrees: f32) -> NullableTemperature
     ensures { result ≡ in_numbers (temperature_of (Probe.Degrees degrees)) }
 {
     in_numbers(probes::temperature_of(Probe::Degrees(degrees)))
