@@ -1,4 +1,6 @@
 // Document 01, One plant, ten calls: the plant, its settings, the readings that a call gets, and the calls.
+#![tactic(auto)]
+
 ghost use Rattle.std.specs.Prelude.{◌≡◌, get_or};
 ghost use Rattle.integers.specs.Linear.{pos_part};
 ghost use Rattle.model.specs.Plant as spec;
