@@ -1,4 +1,6 @@
 // model/specs/Sweep: row 27, timer, sweep, and start as a call.
+#![tactic(auto)]
+
 ghost use Rattle.std.specs.Prelude.{◌≡◌, []};
 ghost use Rattle.records.specs.Records.{no_events, nothing_removed, with_pending};
 ghost use Rattle.model.specs.Answers.{answer};
@@ -20,6 +22,7 @@ fn is_late(d: Readings) -> bool
 }
 
 // Events only; it leaves pending alone.
+#[tactic(auto, using(model::proofs::Packing::push_none), unfolding(model::specs::Sweep::timer, model::specs::Refusals::unless, model::specs::Answers::packed))]
 pub fn timer(cfg: Config, r: Controller, d: Readings) -> Answer
     ensures { result ≡ answer (spec.timer cfg r d) }
 {
@@ -29,6 +32,7 @@ pub fn timer(cfg: Config, r: Controller, d: Readings) -> Answer
     sweep_take_events::answer_taken(sweep_take_events::take_events(cfg, d, r), Notices::none())
 }
 
+#[tactic(auto, unfolding(model::specs::Sweep::sweep_events))]
 fn sweep_events(cfg: Config, d: Readings, n: Notices, r: Controller) -> Answer
     ensures { result ≡ swept_with n (spec.sweep_events cfg d [] r) }
 {
@@ -63,6 +67,7 @@ fn with_pending(r: Controller, p: u16) -> Controller
 }
 
 // With nothing pending it changes nothing.
+#[tactic(auto, using(model::proofs::Packing::push_all_append, model::proofs::Packing::emit_none), unfolding(model::specs::Sweep::swept, model::specs::Sweep::sweep_events, model::specs::Answers::packed, model::specs::Answers::packed_events))]
 fn sweep_pending(cfg: Config, d: Readings, r: Controller) -> Answer
     ensures { result ≡ answer (spec.swept cfg d r) }
 {
@@ -77,6 +82,7 @@ fn sweep_pending(cfg: Config, d: Readings, r: Controller) -> Answer
     answer_notices(q, n)
 }
 
+#[tactic(auto, unfolding(model::specs::Sweep::sweep, model::specs::Refusals::unless))]
 pub fn sweep(cfg: Config, r: Controller, d: Readings) -> Answer
     ensures { result ≡ answer (spec.sweep cfg r d) }
 {
@@ -86,6 +92,7 @@ pub fn sweep(cfg: Config, r: Controller, d: Readings) -> Answer
     sweep_pending(cfg, d, r)
 }
 
+#[tactic(auto, unfolding(model::specs::Sweep::seed_events))]
 pub fn seed_events(cfg: Config, r: Controller, d: Readings) -> Answer
     ensures { result ≡ answer (spec.seed_events cfg r d) }
 {
