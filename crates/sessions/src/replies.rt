@@ -7,7 +7,6 @@ use lines::Line;
 use records::{Answer, Call, Config, Controller, Moment, answer_number};
 use text::{Page, Value};
 
-#[tactic(auto, using(crate::proofs::Others::keeps_config))]
 pub(crate) fn config_after(c: Config, line: Line) -> Config
     ensures { result ≡ configured c line }
 {
@@ -18,7 +17,6 @@ pub(crate) fn config_after(c: Config, line: Line) -> Config
 }
 
 // Of a line that asks nothing of the controller, a quiet answer with the record that it leaves.
-#[tactic(auto, using(crate::proofs::Others::keeps_record))]
 pub(crate) fn answer_to(c: Config, r: Controller, line: Line) -> Answer
     ensures { result ≡ answered c r line }
 {
