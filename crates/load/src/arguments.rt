@@ -1,6 +1,9 @@
 // The program's arguments: numbers in decimal digits.
 ghost use Rattle.load.specs.Arguments.{Below};
 
+use std::env::FillError;
+use std::rt::Env;
+
 #[derive(Clone, Copy)]
 pub enum Read {
     Bad,
@@ -34,10 +37,24 @@ fn number(word: &[u8]) -> Read
 }
 
 // An argument that is missing, or longer than 20 bytes, reads as an empty word.
-pub(crate) fn argument(i: usize) -> Read
+pub(crate) fn argument(rt: &impl Env, i: usize) -> Read
     ensures { Below result }
 {
     let mut word = [0u8; 20];
-    let n = os::arg(i, &mut word);
+    let n = rt.arg(i, &mut word).unwrap_or(0);
     number(&word[..n])
+}
+
+// Whether there is an argument i, however long.
+fn is_given(rt: &impl Env, i: usize) -> bool {
+    let mut word = [0u8; 1];
+    match rt.arg(i, &mut word) {
+        Err(FillError::NotPresent) => false,
+        _ => true,
+    }
+}
+
+// Two arguments behind the program's name.
+pub(crate) fn are_two(rt: &impl Env) -> bool {
+    is_given(rt, 2) & !is_given(rt, 3)
 }

@@ -38,6 +38,7 @@ fn amount(s: u32) -> Tenths
     Tenths((field(s, 41) as i8) - 20)
 }
 
+#[tactic(auto, unfolding(crate::specs::Draws::heating_of))]
 fn heating(s: u32) -> Drawn
     ensures { result ≡ heating_of s }
 {
@@ -49,6 +50,7 @@ fn heating(s: u32) -> Drawn
     }
 }
 
+#[tactic(auto, unfolding(crate::specs::Draws::cooling_of))]
 fn cooling(s: u32) -> Drawn
     ensures { result ≡ cooling_of s }
 {
@@ -60,6 +62,7 @@ fn cooling(s: u32) -> Drawn
     }
 }
 
+#[tactic(auto, unfolding(crate::specs::Draws::mode_of))]
 fn mode(s: u32) -> Drawn
     ensures { result ≡ mode_of s }
 {
@@ -71,6 +74,7 @@ fn mode(s: u32) -> Drawn
     }
 }
 
+#[tactic(auto, unfolding(crate::specs::Draws::raise_of))]
 fn raise(s: u32) -> Drawn
     ensures { result ≡ raise_of s }
 {
@@ -84,6 +88,7 @@ fn raise(s: u32) -> Drawn
     }
 }
 
+#[tactic(auto, unfolding(crate::specs::Draws::limits_of))]
 fn limits(s: u32) -> Drawn
     ensures { result ≡ limits_of s }
 {
@@ -99,6 +104,7 @@ fn limits(s: u32) -> Drawn
 }
 
 // The kind first, then its fields.
+#[tactic(auto, unfolding(crate::specs::Draws::draw_of))]
 pub(crate) fn draw(s: u32) -> Drawn
     ensures { result ≡ draw_of s }
 {

@@ -1,4 +1,6 @@
 // A drawn load on document 01's plant, to count what a call costs: prints the settings at the end, and the totals.
+#![tactic(auto)]
+
 mod arguments;
 mod draws;
 mod totals;
@@ -8,65 +10,66 @@ ghost use Rattle.load.specs.Arguments.{Below};
 
 use arguments::Read;
 use records::Settings;
+use std::io;
 use totals::Load;
 
-fn print_after(name: &[u8], n: u64) {
-    io::write_all(1, name);
-    io::print_decimal(1, n);
+fn print_after(rt: &impl Print, name: &str, n: u64) -> io::Result<()> {
+    print!(rt; "{name}{n}")
 }
 
-fn print_settings(s: Settings) {
-    print_after(b"settings ", plant::whole(s.heating));
-    print_after(b" ", plant::whole(s.cooling));
-    print_after(b" ", plant::whole(s.minheat));
-    print_after(b" ", plant::whole(s.maxheat));
-    print_after(b" ", plant::whole(s.mincool));
-    print_after(b" ", plant::whole(s.maxcool));
-    print_after(b" ", s.mode as u64);
+fn print_settings(rt: &impl Print, s: Settings) -> io::Result<()> {
+    print_after(rt, "settings ", plant::whole(s.heating))?;
+    print_after(rt, " ", plant::whole(s.cooling))?;
+    print_after(rt, " ", plant::whole(s.minheat))?;
+    print_after(rt, " ", plant::whole(s.maxheat))?;
+    print_after(rt, " ", plant::whole(s.mincool))?;
+    print_after(rt, " ", plant::whole(s.maxcool))?;
+    print_after(rt, " ", s.mode as u64)
 }
 
-fn print(l: Load) {
-    print_settings(l.rec.attrs.settings);
-    print_after(b"\naccepted ", l.accepted);
-    print_after(b"\nnotices ", l.notices);
-    print_after(b"\norders ", l.orders);
-    print_after(b"\nevents ", l.events);
-    io::write_all(1, b"\n");
+fn print(rt: &impl Print, l: Load) -> io::Result<()> {
+    print_settings(rt, l.rec.attrs.settings)?;
+    print_after(rt, "\naccepted ", l.accepted)?;
+    print_after(rt, "\nnotices ", l.notices)?;
+    print_after(rt, "\norders ", l.orders)?;
+    print_after(rt, "\nevents ", l.events)?;
+    println!(rt; "")
 }
 
-fn fail() {
-    io::write_all(
-        1,
-        b"error: load COUNT SEED, with COUNT below 10^15 and SEED below 2^32, in decimal\n",
-    );
+fn fail(rt: &impl Print) -> io::Result<()> {
+    println!(rt; "error: load COUNT SEED, with COUNT below 10^15 and SEED below 2^32, in decimal")
 }
 
-fn load(count: u64, seed: u64)
+fn load(rt: &impl Print, count: u64, seed: u64) -> io::Result<()>
     requires { count < 1000000000000000 }
 {
     if seed < 4294967296 {
-        print(totals::run(count, seed as u32));
+        print(rt, totals::run(count, seed as u32))
     } else {
-        fail();
+        fail(rt)
     }
 }
 
-fn load_read(count: Read, seed: Read)
+fn load_read(rt: &impl Print, count: Read, seed: Read) -> io::Result<()>
     requires { Below count }
 {
     match count {
-        Read::Bad => fail(),
+        Read::Bad => fail(rt),
         Read::Is(n) => match seed {
-            Read::Bad => fail(),
-            Read::Is(s) => load(n, s),
+            Read::Bad => fail(rt),
+            Read::Is(s) => load(rt, n, s),
         },
     }
 }
 
-fn main() {
-    if os::arg_count() == 3 {
-        load_read(arguments::argument(1), arguments::argument(2));
+fn main(rt: HostRuntime) -> io::Result<()> {
+    if arguments::are_two(&rt) {
+        load_read(
+            &rt,
+            arguments::argument(&rt, 1),
+            arguments::argument(&rt, 2),
+        )
     } else {
-        fail();
+        fail(&rt)
     }
 }

@@ -67,6 +67,7 @@ fn choose(sweep: bool, s: u32) -> Drawn
 }
 
 // A drawn call or a sweep: one place alone calls the controller, so that it is compiled into the loop with the plant known.
+#[tactic(auto, using(crate::proofs::Bounds::notices_most, crate::proofs::Bounds::events_most), unfolding(crate::specs::Totals::turned))]
 fn turn(l: Load, sweep: bool) -> Load
     requires { TotalsBounded l }
     ensures { result ≡ turned l sweep }
@@ -103,6 +104,7 @@ fn next_place(place: u8) -> u8
     place + 1
 }
 
+#[tactic(auto, using(crate::proofs::Bounds::totals_bounded), unfolding(crate::specs::Totals::load_of, crate::specs::Totals::is_sweep))]
 pub(crate) fn run(count: u64, seed: u32) -> Load
     requires { count < 1000000000000000 }
     ensures { result ≡ load_of seed (turns_of count) }
