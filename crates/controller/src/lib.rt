@@ -33,7 +33,6 @@ fn serve(cfg: Config, rec: Controller, d: Readings, call: Call) -> Answer
 }
 
 // For a caller that holds its record from an opening on: row 28 is not tested, since the opening and every step keep it.
-#[tactic(auto, using(model::proofs::Plans::planned_carried, model::proofs::Refused::sound_step, model::proofs::Removed::planned_removed, model::proofs::Removed::unplanned_removed, crate::proofs::NoWrites::is_no_reset), unfolding(model::specs::Step::step_sound, model::specs::Removed::removed_when_done, model::specs::Plans::planned))]
 pub fn step_sound(cfg: Config, rec: Controller, d: Readings, call: Call) -> Answer
     requires { sound_of cfg rec ≡ true }
     ensures { (result ≡ answer_with (step_of cfg rec d call) (removed cfg rec d call)) × (sound_of cfg result.rec ≡ true) }
