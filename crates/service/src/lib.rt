@@ -1,4 +1,6 @@
 // The service entry: it is lent the controller record, and leaves in it the record of the answer.
+#![tactic(auto)]
+
 ghost use Rattle.std.specs.Prelude.{◌≡◌};
 ghost use Rattle.model.specs.Answers.{answer_with};
 ghost use Rattle.model.specs.Removed.{removed};
