@@ -5,8 +5,8 @@ use Prim.Native.Nat.{ℕ}
 use native.Mathlib.Omega.{arith}
 use lib.IntN.{ℤ, pos, ◌+ℤ◌}
 use lib.Signed.{◌≤ℤ◌, lt_z}
-use Rattle.integers.specs.Linear.{linear, sum_parts, diff_parts}
-use Rattle.integers.specs.Clamp.{clamp_low, clamp_high}
+use Rattle.integers.proofs.Linear.{linear, sum_parts, diff_parts}
+use Rattle.integers.proofs.Clamp.{clamp_low, clamp_high}
 use Rattle.units.specs.Units.{less, minus, above, within, clamped}
 use Rattle.units.specs.declared.Hundredths.{Hundredths}
 use Rattle.units.specs.declared.Wide.{Wide}

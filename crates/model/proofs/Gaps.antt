@@ -7,8 +7,9 @@ use lib.Dec.{eqb}
 use lib.IntN.{ℤ, ◌+ℤ◌, ◌-ℤ◌}
 use lib.Signed.{◌≤ℤ◌, ≤ℤ_refl}
 use borrow.Author.Tests.{not-false}
-use Rattle.integers.specs.Linear.{linear, sum_parts, diff_parts}
-use Rattle.integers.specs.Clamp.{clamp_z, clamp_above, clamp_below}
+use Rattle.integers.proofs.Linear.{linear, sum_parts, diff_parts}
+use Rattle.integers.specs.Clamp.{clamp_z}
+use Rattle.integers.proofs.Clamp.{clamp_above, clamp_below}
 use Rattle.units.specs.Units.{plus, minus, widened, clamped}
 use Rattle.units.specs.declared.Hundredths.{Hundredths}
 use Rattle.units.specs.declared.Tenths.{Tenths}

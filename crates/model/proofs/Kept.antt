@@ -6,7 +6,7 @@ use Prim.Native.Nat.{ℕ}
 use lib.IntN.{ℤ, ◌+ℤ◌}
 use lib.Signed.{◌≤ℤ◌}
 use borrow.Author.Tests.{not-false}
-use Rattle.integers.specs.Linear.{linear}
+use Rattle.integers.proofs.Linear.{linear}
 use Rattle.units.specs.Units.{plus, minus, above, below, within, widened}
 use Rattle.units.specs.declared.Hundredths.{Hundredths}
 use Rattle.records.specs.Records.{with_attrs, set_min_heat, set_max_heat, set_min_cool, set_max_cool, set_mode}

@@ -3,8 +3,9 @@ use mathlib.Core.Path.{◌≡◌, ◌∙◌, ap}
 use mathlib.Core.Bool.{true, false}
 use lib.IntN.{ℤ, ◌+ℤ◌}
 use lib.Signed.{◌≤ℤ◌}
-use Rattle.integers.specs.Linear.{linear, sum_parts}
-use Rattle.integers.specs.Clamp.{clamp_z, by_clamp, clamp_low, clamp_above, clamp_within}
+use Rattle.integers.proofs.Linear.{linear, sum_parts}
+use Rattle.integers.specs.Clamp.{clamp_z}
+use Rattle.integers.proofs.Clamp.{by_clamp, clamp_low, clamp_above, clamp_within}
 use Rattle.units.specs.Units.{hundredths, in_hundredths, plus, below, clamped, raised}
 use Rattle.units.specs.declared.Hundredths.{Hundredths}
 use Rattle.units.specs.declared.Tenths.{Tenths}

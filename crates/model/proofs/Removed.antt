@@ -8,8 +8,9 @@ use lib.Dec.{eqb, ltb}
 use lib.IntN.{ℤ, pos, ◌+ℤ◌, ◌-ℤ◌}
 use lib.Signed.{◌≤ℤ◌}
 use borrow.Author.Tests.{ltb-true, ne_eqb, not-false}
-use Rattle.integers.specs.Linear.{linear, sum_parts, diff_parts}
-use Rattle.integers.specs.Clamp.{clamp_z, max_parts, clamp_within}
+use Rattle.integers.proofs.Linear.{linear, sum_parts, diff_parts}
+use Rattle.integers.specs.Clamp.{clamp_z}
+use Rattle.integers.proofs.Clamp.{max_parts, clamp_within}
 use Rattle.units.specs.Units.{plus, minus, above, below, widened, greater, clamped, asked_less_given, amount_removed}
 use Rattle.units.specs.declared.Hundredths.{Hundredths}
 use Rattle.units.specs.declared.Tenths.{Tenths}

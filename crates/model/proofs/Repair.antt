@@ -4,8 +4,9 @@ use mathlib.Core.Bool.{true, false, not, ◌&&◌, cond}
 use Prim.Native.Nat.{ℕ}
 use lib.IntN.{ℤ, ◌+ℤ◌, ◌-ℤ◌}
 use lib.Signed.{◌≤ℤ◌}
-use Rattle.integers.specs.Linear.{linear, sum_parts, diff_parts}
-use Rattle.integers.specs.Clamp.{clamp_z, max_z, min_z, max_parts, min_parts, clamp_low, clamp_high, clamp_within, clamp_lesser}
+use Rattle.integers.proofs.Linear.{linear, sum_parts, diff_parts}
+use Rattle.integers.specs.Clamp.{clamp_z, max_z, min_z}
+use Rattle.integers.proofs.Clamp.{max_parts, min_parts, clamp_low, clamp_high, clamp_within, clamp_lesser}
 use Rattle.units.specs.Units.{hundredths, plus, minus, widened, greater, clamped}
 use Rattle.units.specs.declared.Hundredths.{Hundredths}
 use Rattle.model.specs.Served.{heats, cools, auto, has_heat_limits, has_cool_limits}

@@ -4,8 +4,10 @@ use mathlib.Core.Bool.{Bool, true, false, not, ◌&&◌, ◌||◌, cond}
 use lib.IntN.{ℤ, ◌+ℤ◌, ◌-ℤ◌}
 use lib.Signed.{◌≤ℤ◌}
 use borrow.Author.Tests.{eq-eqb}
-use Rattle.integers.specs.Linear.{linear, eq_z, sum_parts, diff_parts}
-use Rattle.integers.specs.Clamp.{clamp_z, max_parts, min_parts, clamp_within, clamp_upper}
+use Rattle.integers.specs.Linear.{eq_z}
+use Rattle.integers.proofs.Linear.{linear, sum_parts, diff_parts}
+use Rattle.integers.specs.Clamp.{clamp_z}
+use Rattle.integers.proofs.Clamp.{max_parts, min_parts, clamp_within, clamp_upper}
 use Rattle.units.specs.Units.{hundredths, equal, plus, minus, widened, greater, lesser, clamped}
 use Rattle.units.specs.declared.Hundredths.{Hundredths}
 use Rattle.units.specs.declared.Wide.{Wide}

@@ -5,7 +5,7 @@ use mathlib.Core.List.{◌++◌}
 use lib.IntN.{ℤ, pos, ◌+ℤ◌}
 use lib.Signed.{◌≤ℤ◌}
 use borrow.Author.Tests.{eqb-true, not-false}
-use Rattle.integers.specs.Linear.{linear, sum_parts, diff_parts}
+use Rattle.integers.proofs.Linear.{linear, sum_parts, diff_parts}
 use Rattle.units.specs.Units.{in_hundredths, less, minus, above}
 use Rattle.units.specs.declared.Hundredths.{Hundredths}
 use Rattle.model.specs.Refusals.{Clear, then_rows}

@@ -8,8 +8,9 @@ use native.Mathlib.Omega.{arith}
 use lib.IntN.{ℤ, pos, negsuc, neg_ℤ, nat_abs, ◌-ℤ◌, ◌*ℤ◌}
 use lib.Dec.{ltb}
 use borrow.Author.Tests.{ltb-true, ltb-false}
-use Rattle.integers.specs.Clamp.{by_test}
-use Rattle.integers.specs.Linear.{pos_part, neg_part, linear, diff_parts, scale_parts}
+use Rattle.integers.proofs.Clamp.{by_test}
+use Rattle.integers.specs.Linear.{pos_part, neg_part}
+use Rattle.integers.proofs.Linear.{linear, diff_parts, scale_parts}
 use Rattle.probes.specs.Probes.{Fraction, signed, half_to_even, nearest_hundredths, distance, NearestFound, NearestOnlyOne}
 use Rattle.probes.proofs.Rounding.{gap, Close, is_close}
 

@@ -14,8 +14,8 @@ use lib.Ieee.Bits.{to_bits-of_bits, nan_bits_is}
 use lib.Ieee.Compare.{differs_from_itself}
 use lib.Ieee.Exact.{HasValue, odd_sign}
 use borrow.Author.Tests.{ne_eqb, eqb-true}
-use Rattle.integers.specs.Clamp.{by_test}
-use Rattle.integers.specs.Linear.{linear, false_le_z, diff_parts}
+use Rattle.integers.proofs.Clamp.{by_test}
+use Rattle.integers.proofs.Linear.{linear, false_le_z, diff_parts}
 use Rattle.units.specs.Units.{hundredths}
 use Rattle.records.specs.declared.Temperature.TheVariants.{NoReading, Reading}
 use Rattle.probes.specs.Probes.{sign_of, exponent_of, fraction_of, Value, not_finite, exactly, signed, significand, exact_value, half_to_even, nearest_hundredths, in_range, of_value, of_pattern, of_degrees, StandsFor, ExactByStandard, EveryPattern, SubnormalsGiveZero}

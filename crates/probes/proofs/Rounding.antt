@@ -7,7 +7,7 @@ use native.Mathlib.Omega.{arith}
 use lib.Dec.{ltb}
 use lib.Arith.{digits_div, digits_mod, mod-mul}
 use borrow.Author.Tests.{ltb-true, ltb-false, lt-ltb, le-ltb}
-use Rattle.integers.specs.Clamp.{by_test}
+use Rattle.integers.proofs.Clamp.{by_test}
 use Rattle.probes.specs.Probes.{half_to_even}
 
 -- the three cases of rounding n / d

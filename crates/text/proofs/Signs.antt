@@ -5,7 +5,8 @@ use mathlib.Core.Bool.{true, false}
 use lib.Dec.{T}
 use lib.IntN.{ℤ, pos, negsuc, nat_abs, ◌-ℤ◌}
 use lib.Signed.{lt_z, non_neg}
-use Rattle.integers.specs.Linear.{linear, pos_part}
+use Rattle.integers.specs.Linear.{pos_part}
+use Rattle.integers.proofs.Linear.{linear}
 
 pub natural_below : (z : ℤ) → lt_z z (pos 0) ≡ true → ◌≡◌ 0 (pos_part z)
 natural_below (pos n) t = absurd (omega linear)

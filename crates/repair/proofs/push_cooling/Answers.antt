@@ -1,5 +1,5 @@
 use Rattle.std.proofs.Common.{sym, subst}
-use Rattle.integers.specs.Clamp.{max_bounded}
+use Rattle.integers.proofs.Clamp.{max_bounded}
 use Rattle.units.specs.Units.{Sum, greater}
 use Rattle.units.specs.declared.Wide.{Wide}
 use Rattle.repair.proofs.push_cooling.Goals as goal

@@ -1,4 +1,4 @@
-use Rattle.integers.specs.Widths.{ranges, sum_bounded}
+use Rattle.integers.proofs.Widths.{ranges, sum_bounded}
 use Rattle.units.specs.Units.{plus}
 use Rattle.units.proofs.add.Goals as goal
 

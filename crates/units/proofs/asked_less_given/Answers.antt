@@ -1,4 +1,4 @@
-use Rattle.integers.specs.Widths.{ranges, rest_in_32}
+use Rattle.integers.proofs.Widths.{ranges, rest_in_32}
 use Rattle.units.specs.Units.{asked_less_given}
 use Rattle.units.proofs.asked_less_given.Goals as goal
 

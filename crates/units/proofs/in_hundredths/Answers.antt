@@ -1,4 +1,4 @@
-use Rattle.integers.specs.Widths.{ranges}
+use Rattle.integers.proofs.Widths.{ranges}
 use Rattle.units.specs.Units.{in_hundredths}
 use Rattle.units.proofs.in_hundredths.Goals as goal
 

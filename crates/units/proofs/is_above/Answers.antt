@@ -1,4 +1,4 @@
-use Rattle.integers.specs.Widths.{ranges}
+use Rattle.integers.proofs.Widths.{ranges}
 use Rattle.units.specs.Units.{above}
 use Rattle.units.proofs.is_above.Goals as goal
 

@@ -1,4 +1,4 @@
-use Rattle.integers.specs.Widths.{ranges}
+use Rattle.integers.proofs.Widths.{ranges}
 use Rattle.units.specs.Units.{less}
 use Rattle.units.proofs.is_less.Goals as goal
 

@@ -1,4 +1,4 @@
-use Rattle.integers.specs.Widths.{ranges}
+use Rattle.integers.proofs.Widths.{ranges}
 use Rattle.units.specs.Units.{equal}
 use Rattle.units.proofs.same.Goals as goal
 

@@ -1,4 +1,4 @@
-use Rattle.integers.specs.Widths.{ranges, diff_bounded}
+use Rattle.integers.proofs.Widths.{ranges, diff_bounded}
 use Rattle.units.specs.Units.{minus}
 use Rattle.units.proofs.sub.Goals as goal
 

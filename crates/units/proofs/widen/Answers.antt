@@ -1,4 +1,4 @@
-use Rattle.integers.specs.Widths.{ranges, half_bounded}
+use Rattle.integers.proofs.Widths.{ranges, half_bounded}
 use Rattle.units.specs.Units.{widened}
 use Rattle.units.proofs.widen.Goals as goal
 
