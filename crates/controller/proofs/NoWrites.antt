@@ -25,13 +25,6 @@ use Rattle.records.specs.contracts.Call as declared
 abbrev no_arm : List ℕ
 no_arm = 0 ∷ 1 ∷ 2 ∷ 3 ∷ 4 ∷ 5 ∷ 6 ∷ 7 ∷ 8 ∷ 15 ∷ 16 ∷ []
 
--- all but FactoryReset
-abbrev no_reset : List ℕ
-no_reset = 0 ∷ 1 ∷ 2 ∷ 3 ∷ 4 ∷ 5 ∷ 6 ∷ 7 ∷ 8 ∷ 9 ∷ 10 ∷ 11 ∷ 12 ∷ 13 ∷ 14 ∷ 16 ∷ []
-
-pub is_no_reset : (k : Call) → OneOf no_reset (tag_of declared.the_type k) → k ≡ FactoryReset → ⊥
-is_no_reset k h e = miss no_reset 15 tt (subst (λ (x : Call). OneOf no_reset (tag_of declared.the_type x)) e h)
-
 pub changes_nothing : (cfg : Config) (r : Controller) (d : Readings) (k : Call) → OneOf no_arm (tag_of declared.the_type k) → planned cfg r.attrs.settings k ≡ NoWrite → (k ≡ FactoryReset → ⊥) → (step_sound cfg r d k ≡ quiet 0 r) × (removed_when_done cfg r.attrs k ≡ nothing_removed)
 unfolding step_sound removed_when_done planned set_control_sequence_of_operation
 changes_nothing cfg r d (WriteOccupiedHeatingSetpoint v) h e n = absurd (no_write (sym e))

@@ -1,10 +1,10 @@
 -- One call: the gap is kept, or a short one is allowed.
 use mathlib.Core.Path.{◌≡◌, refl, sym, ◌∙◌, subst}
 use mathlib.Core.Bool.{Bool, true, false, ◌||◌, cond}
-use mathlib.Core.List.{List, [], ◌∷◌}
+use mathlib.Core.List.{List}
 use Prim.Native.Nat.{ℕ}
 use lib.Dec.{eqb}
-use lib.IntN.{ℤ, ◌+ℤ◌, ◌-ℤ◌}
+use lib.IntN.{◌+ℤ◌, ◌-ℤ◌}
 use lib.Signed.{◌≤ℤ◌, ≤ℤ_refl}
 use borrow.Author.Tests.{not-false}
 use Rattle.integers.proofs.Linear.{linear, sum_parts, diff_parts}
@@ -46,10 +46,10 @@ use Rattle.records.specs.declared.Call.TheVariants.{WriteOccupiedHeatingSetpoint
 use Rattle.model.specs.Lists.{short_gap_after}
 use Rattle.model.proofs.Logic.{clash, not_both, by_cond, by_refusal}
 use Rattle.model.proofs.Valid.{Valid, valid}
-use Rattle.model.proofs.Chain.{InForce, LimitTests, inside, apart, in_force, heating_between, cooling_between, heat_clamped_lem, cool_clamped_lem}
+use Rattle.model.proofs.Chain.{InForce, LimitTests, inside, apart, in_force, heat_clamped_lem, cool_clamped_lem}
 use Rattle.model.proofs.Repair.{repair_settled}
 use Rattle.model.proofs.Good.{Good, cooling_inside, raised_heat, raised_cool, targets_placed, armed_good}
-use Rattle.model.proofs.Kept.{step_good, opened_good, min_heat_tests, max_heat_tests, min_cool_tests, max_cool_tests, far}
+use Rattle.model.proofs.Kept.{min_heat_tests, max_heat_tests, min_cool_tests, max_cool_tests, far}
 
 module _ (cfg : Config) (s : Settings) (k : InForce cfg s) where
   -- a heating value within its limits, and cooling with the gap kept

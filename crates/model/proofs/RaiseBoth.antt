@@ -12,10 +12,8 @@ use Rattle.units.specs.declared.Tenths.{Tenths}
 use Rattle.model.specs.Served.{auto}
 use Rattle.model.specs.Units.{dead_band, GapKept}
 use Rattle.model.specs.Limits.{min_heat_setpoint, max_heat_setpoint, min_cool_setpoint, max_cool_setpoint, in_heat_limits, in_cool_limits}
-use Rattle.model.specs.Answers.{Outcome}
 use Rattle.model.specs.Refusals.{unless}
 use Rattle.model.specs.Attribution.{armed_clock, claim_setpoints}
-use Rattle.model.specs.Orders.{ask_sweep}
 use Rattle.model.specs.Sound.{sound}
 use Rattle.model.specs.Writes.{applied, too_near_heating, heating_with_gap}
 use Rattle.model.specs.RaiseBoth.{heating_target, cooling_target, targets_stored, raise_both, TargetsKeepGap, HeatingAtTarget, SameAmount}
@@ -29,7 +27,7 @@ use Rattle.records.specs.declared.Call.TheVariants.{RaiseLowerSetpoint}
 use Rattle.model.proofs.Logic.{cases}
 use Rattle.model.proofs.Valid.{Valid, valid}
 use Rattle.model.proofs.Chain.{InForce, inside, in_force}
-use Rattle.model.proofs.Good.{Good, good, is_good, sound_accepted}
+use Rattle.model.proofs.Good.{Good, good, sound_accepted}
 use Rattle.model.proofs.Refused.{sound_step}
 
 -- numbers that far apart, moved by one amount and clamped between limits that far apart

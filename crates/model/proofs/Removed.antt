@@ -9,7 +9,6 @@ use lib.IntN.{ℤ, pos, ◌+ℤ◌, ◌-ℤ◌}
 use lib.Signed.{◌≤ℤ◌}
 use borrow.Author.Tests.{ltb-true, ne_eqb, not-false}
 use Rattle.integers.proofs.Linear.{linear, sum_parts, diff_parts}
-use Rattle.integers.specs.Clamp.{clamp_z}
 use Rattle.integers.proofs.Clamp.{max_parts, clamp_within}
 use Rattle.units.specs.Units.{plus, minus, above, below, widened, greater, clamped, asked_less_given, amount_removed}
 use Rattle.units.specs.declared.Hundredths.{Hundredths}
@@ -17,7 +16,7 @@ use Rattle.units.specs.declared.Tenths.{Tenths}
 use Rattle.units.specs.declared.Wide.{Wide}
 use Rattle.records.specs.Records.{nothing_removed}
 use Rattle.model.specs.Answers.{Outcome, quiet}
-use Rattle.model.specs.Refusals.{Row, unless, Clear, numbered}
+use Rattle.model.specs.Refusals.{Row, Clear, numbered}
 use Rattle.model.specs.Served.{heats, cools, auto}
 use Rattle.model.specs.Units.{dead_band}
 use Rattle.model.specs.Limits.{min_heat_setpoint, max_heat_setpoint, min_cool_setpoint, max_cool_setpoint, in_heat_limits, in_cool_limits, clamp_heat_setpoint, clamp_cool_setpoint}
@@ -42,7 +41,7 @@ use Rattle.records.specs.declared.Readings.{Readings}
 use Rattle.records.specs.declared.Removed.{Removed}
 use Rattle.records.specs.declared.Plan.{Plan}
 use Rattle.records.specs.declared.Stored.{Stored}
-use Rattle.records.specs.declared.Stored.TheVariants.{Nothing, MinHeat, MaxHeat, MinCool, MaxCool}
+use Rattle.records.specs.declared.Stored.TheVariants.{MinHeat, MaxHeat, MinCool, MaxCool}
 use Rattle.records.specs.declared.Sides.TheVariants.{Heating, Cooling}
 use Rattle.records.specs.declared.Planned.{Planned}
 use Rattle.records.specs.declared.Planned.TheVariants.{NoWrite, Write}
@@ -52,7 +51,7 @@ use Rattle.records.specs.declared.Call.TheVariants.{WriteOccupiedHeatingSetpoint
 use Rattle.model.proofs.Logic.{both, clash, by_cond, both_cond}
 use Rattle.model.proofs.Valid.{Valid, valid}
 use Rattle.model.proofs.Chain.{InForce, LimitTests, Placed, in_force, heating_between, cooling_between, heat_clamped_lem, cool_clamped_lem}
-use Rattle.model.proofs.Repair.{with_points, limits_by_formula, limits_tested, clamped_points, clamp_steps}
+use Rattle.model.proofs.Repair.{limits_by_formula, limits_tested, clamp_steps}
 use Rattle.model.proofs.Refused.{sound_step, unsound_refused}
 use Rattle.model.proofs.Plans.{write_of, no_write, planned_carried}
 use Rattle.model.proofs.Good.{Good, good, sound_accepted, points_placed, heating_inside, cooling_inside, raised_heat, raised_cool, heat_target, cool_target}

@@ -1,6 +1,6 @@
 -- Repair on an accepted configuration: the settings that its steps give are the formulas of C-24, pass row 28 and keep the gap.
 use mathlib.Core.Path.{◌≡◌, refl, sym, ◌∙◌, ap, ap₂, subst}
-use mathlib.Core.Bool.{true, false, not, ◌&&◌, cond}
+use mathlib.Core.Bool.{true, false, ◌&&◌, cond}
 use Prim.Native.Nat.{ℕ}
 use lib.IntN.{ℤ, ◌+ℤ◌, ◌-ℤ◌}
 use lib.Signed.{◌≤ℤ◌}
@@ -19,7 +19,7 @@ use Rattle.model.specs.Sound.{sound_heat_limits, sound_cool_limits, sound_gap, s
 use Rattle.records.specs.declared.Config.{Config}
 use Rattle.records.specs.declared.Settings.{Settings}
 use Rattle.records.specs.declared.Attrs.{Attrs}
-use Rattle.model.proofs.Logic.{both, implies, by_cond, cases}
+use Rattle.model.proofs.Logic.{implies, by_cond, cases}
 use Rattle.model.proofs.Valid.{Valid}
 use Rattle.model.proofs.Chain.{Ordered, InForce, LimitTests, Placed, is_heat_ordered, is_cool_ordered, is_gaps, in_force, heat_clamped_lem, cool_clamped_lem}
 

@@ -7,7 +7,6 @@ use native.Mathlib.Omega.{arith}
 use lib.Dec.{eqb}
 use native.Mathlib.Nat.{add-zero, zero-add, add-suc, suc-add, le_of_suc-le-suc, not-suc-le-zero}
 use lib.ListN.{length, get_or}
-use Rattle.units.specs.declared.Hundredths.{Hundredths}
 use Rattle.records.specs.Records.{zero_hundredths}
 use Rattle.units.specs.Units.{equal}
 use Rattle.model.specs.Week.{hours_of_week, acts, hour_rows, hour, mill_week, week_table, listed_from, is_workday, hour_of_day, TableTested, EntryByRule, TableByRule, ActsAtSixAndEighteen, IdleHourChangesNothing}

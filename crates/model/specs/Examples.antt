@@ -1,9 +1,8 @@
 -- Document 01's four traps and the cases of C-11, C-12, C-14, C-15 and C-20, computed on its plant. docs/THEOREM.md describes each.
-use Rattle.std.specs.Prelude.{◌≡◌, true, false, List, [], ◌∷◌, ◌++◌, ℕ, ℤ, pos, negsuc}
+use Rattle.std.specs.Prelude.{◌≡◌, true, false, List, [], ◌∷◌, ℕ, ℤ, pos, negsuc}
 use Rattle.units.specs.Units.{hundredths}
 use Rattle.records.specs.Records.{current_snapshot}
 use Rattle.model.specs.Answers.{Outcome}
-use Rattle.model.specs.Validation.{accepted}
 use Rattle.model.specs.FactoryReset.{delivered}
 use Rattle.model.specs.Step.{opened, step}
 use Rattle.model.specs.Plant.{at, plant, plant_settings, no_readings}
@@ -13,7 +12,7 @@ use Rattle.records.specs.declared.Config.{Config}
 use Rattle.records.specs.declared.Settings.{Settings}
 use Rattle.records.specs.declared.Controller.{Controller}
 use Rattle.records.specs.declared.Readings.{Readings}
-use Rattle.records.specs.declared.Temperature.TheVariants.{NoReading, Reading}
+use Rattle.records.specs.declared.Temperature.TheVariants.{NoReading}
 use Rattle.records.specs.declared.Second.TheVariants.{NoSecond, At}
 use Rattle.records.specs.declared.Amount.TheVariants.{NoAmount, Moved}
 use Rattle.records.specs.declared.Attributed.TheVariants.{Claimed}
@@ -24,7 +23,7 @@ use Rattle.records.specs.declared.Event.TheVariants.{SetpointChange}
 use Rattle.records.specs.declared.Order.TheVariants.{NoOrder, Apply}
 use Rattle.records.specs.declared.OutOfBandMessage.TheVariants.{LocalTemperature, OccupiedHeatingSetpoint, OccupiedCoolingSetpoint, SetpointLimits}
 use Rattle.records.specs.declared.Call.{Call}
-use Rattle.records.specs.declared.Call.TheVariants.{WriteOccupiedHeatingSetpoint, WriteOccupiedCoolingSetpoint, WriteMinHeatSetpointLimit, WriteMaxHeatSetpointLimit, WriteMinCoolSetpointLimit, WriteMaxCoolSetpointLimit, WriteSystemMode, RaiseLowerSetpoint, OutOfBand, ArmClock, SeedEvents, Sweep, FactoryReset, Hour}
+use Rattle.records.specs.declared.Call.TheVariants.{WriteOccupiedHeatingSetpoint, WriteOccupiedCoolingSetpoint, WriteMaxHeatSetpointLimit, RaiseLowerSetpoint, OutOfBand, ArmClock, SeedEvents, Sweep, FactoryReset, Hour}
 
 abbrev pub without_readings : Call → Entry
 without_readings k = entry k no_readings

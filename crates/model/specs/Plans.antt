@@ -1,12 +1,12 @@
 -- Document 01, Writes, as plans: what each write asks for, and how a plan is carried out. The definitions in the paper's words are those of Writes,
 -- RaiseLower and RaiseBoth; that a plan carried out is its write is a law for each, stated last.
-use Rattle.std.specs.Prelude.{◌≡◌, Bool, true, false, not, ◌||◌, cond, List, [], ◌∷◌, ◌++◌, ℕ, eqb, ltb}
+use Rattle.std.specs.Prelude.{◌≡◌, Bool, true, false, ◌||◌, cond, List, [], ◌∷◌, ◌++◌, ℕ, eqb}
 use Rattle.units.specs.Units.{widened, raised}
 use Rattle.units.specs.declared.Hundredths.{Hundredths}
 use Rattle.units.specs.declared.Tenths.{Tenths}
 use Rattle.records.specs.Records.{with_attrs, changed_to, with_heating, with_cooling, with_min_heat, with_max_heat, with_min_cool, with_max_cool, with_mode, with_setpoints, updated, nothing_removed}
 use Rattle.model.specs.Answers.{Outcome, only_if, quiet}
-use Rattle.model.specs.Refusals.{Row, row}
+use Rattle.model.specs.Refusals.{Row}
 use Rattle.model.specs.Served.{noticed}
 use Rattle.model.specs.Limits.{min_heat_setpoint, max_heat_setpoint, min_cool_setpoint, max_cool_setpoint, in_heat_limits, in_cool_limits, clamp_heat_setpoint, clamp_cool_setpoint}
 use Rattle.model.specs.Attribution.{external, schedule, with_attributed, armed_clock, served_setpoints}

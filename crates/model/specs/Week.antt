@@ -1,5 +1,5 @@
 -- Document 02, C-15: the mill's week.
-use Rattle.std.specs.Prelude.{◌≡◌, Bool, true, false, ◌&&◌, ◌||◌, cond, List, [], ◌∷◌, ◌++◌, ℕ, suc, zero, ◌-◌, ◌/◌, ◌%◌, ◌<◌, eqb, ltb, leb, pos, length, get_or, replicate}
+use Rattle.std.specs.Prelude.{◌≡◌, Bool, false, ◌&&◌, ◌||◌, cond, List, [], ◌∷◌, ◌++◌, ℕ, suc, zero, ◌-◌, ◌/◌, ◌%◌, ◌<◌, eqb, ltb, leb, pos, length, get_or, replicate}
 use Rattle.units.specs.Units.{hundredths, widened}
 use Rattle.units.specs.declared.Hundredths.{Hundredths}
 use Rattle.records.specs.Records.{zero_hundredths, changed_to}
