@@ -38,7 +38,7 @@ fn call(i: u64, before: Answer) -> Answer
     controller::step_sound(plant::plant(), r, plant::no_readings(), plant::call_at(i))
 }
 
-#[tactic(auto, using(crate::proofs::Lines::in_table), unfolding(crate::specs::Lines::outcome_after))]
+#[tactic(auto, using(crate::proofs::Lines::in_table))]
 fn main(rt: HostRuntime) -> io::Result<()> {
     let mut a = opening::open(plant::plant(), plant::settings());
     print_answer(&rt, 1, a)?;
