@@ -115,7 +115,6 @@ fn label(page: &mut Page, at: usize, i: usize) -> usize
     text(page, at, &entry[..n])
 }
 
-#[tactic(auto, using(crate::proofs::Digits::at_most))]
 fn decimal(page: &mut Page, at: usize, n: u64) -> usize
     requires { Room at 20 }
     ensures { Within at 20 result }
@@ -125,7 +124,6 @@ fn decimal(page: &mut Page, at: usize, n: u64) -> usize
     text(page, at, &digits[..k])
 }
 
-#[tactic(auto, using(crate::proofs::Digits::at_most))]
 fn hex(page: &mut Page, at: usize, n: u64) -> usize
     requires { Room at 16 }
     ensures { Within at 16 result }

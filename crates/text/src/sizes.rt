@@ -12,7 +12,6 @@ pub struct SignMagnitude {
 }
 
 // The number itself, and 0 for one below.
-#[tactic(auto, using(crate::proofs::Signs::natural_below, crate::proofs::Signs::no_sign, crate::proofs::Signs::distance_from_0))]
 fn natural(x: i64) -> u64
     ensures { result ≡ pos_part x }
 {
@@ -23,7 +22,6 @@ fn natural(x: i64) -> u64
 }
 
 // In 64 bits, since 32 do not hold the opposite of their lowest number.
-#[tactic(auto, using(crate::proofs::Signs::distance_from_0, crate::proofs::Signs::distance_below))]
 pub(crate) fn sign_magnitude(v: Wide) -> SignMagnitude
     ensures { (result.negative ≡ lt_z v.0 (pos 0)) × (result.magnitude ≡ nat_abs v.0) }
 {
