@@ -10,7 +10,7 @@
                                                                    but the port's where C-14 or C-20 sets them apart, marked,
                                                                    each with the amounts of removed.py
 
-The paths are target/bin/console and oracle/target/release/oracle if none are given.
+The paths are crates/console/out/console and oracle/target/release/oracle if none are given.
 
 It draws configurations (their numbers from the oracle's table), records, readings and calls, near the edges more often than
 not, and goes on until CALLS of them lie in document 01's domain. In turn with these come lists that are run through completely
@@ -1557,7 +1557,7 @@ def main():
     parser = argparse.ArgumentParser(description="Compares the console with the Rust.")
     parser.add_argument("calls", nargs="?", type=int, default=1000000)
     parser.add_argument("seed", nargs="?", type=int, default=1)
-    parser.add_argument("console", nargs="?", default=str(ROOT / "target/bin/console"))
+    parser.add_argument("console", nargs="?", default=str(ROOT / "crates/console/out/console"))
     parser.add_argument("oracle", nargs="?", default=str(ROOT / "oracle/target/release/oracle"))
     parser.add_argument("--repair", action="store_true")
     parser.add_argument("--both", action="store_true")

@@ -16,7 +16,7 @@ import sys
 import time
 
 ROOT = pathlib.Path(__file__).resolve().parent.parent
-CONSOLE = sys.argv[1] if len(sys.argv) > 1 else str(ROOT / "target/bin/console")
+CONSOLE = sys.argv[1] if len(sys.argv) > 1 else str(ROOT / "crates/console/out/console")
 ORACLE = sys.argv[2] if len(sys.argv) > 2 else str(ROOT / "oracle/target/release/oracle")
 
 READINGS = "wwHDDq"

@@ -13,7 +13,7 @@ struct NullableTemperature {
     given: u16,
 }
 
-#[link(name = "embedding", kind = "static")]
+#[link(name = "embedding_c", kind = "static")]
 extern "C" {
     fn thermostat_probe_degrees(degrees: f32) -> NullableTemperature;
 }
