@@ -4,7 +4,7 @@ use Rattle.std.specs.Prelude.{ℕ, zero, suc, pos, take, get_or}
 use Rattle.integers.specs.Linear.{pos_part}
 use Rattle.model.specs.Answers.{Outcome, answer_with}
 use Rattle.model.specs.Removed.{opening_removed, removed}
-use Rattle.model.specs.Plant.{plant, plant_settings, no_readings, ten_calls, Line, ten_lines}
+use Rattle.model.specs.Plant.{plant, plant_settings, no_readings, ten_calls, ten_lines}
 use Rattle.model.specs.Step.{opened, step}
 use Rattle.records.specs.declared.Answer.{Answer}
 use Rattle.records.specs.declared.Removed.{Removed}
