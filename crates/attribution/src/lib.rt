@@ -4,7 +4,7 @@
 ghost use Rattle.std.specs.Prelude.{◌≡◌, cond};
 ghost use Rattle.records.specs.Records.{zero_hundredths};
 ghost use Rattle.records.specs.declared.Second.TheVariants.{NoSecond};
-ghost use Rattle.model.specs.Attribution.{stamp as stampOf, recorded, with_attributed, with_armed, armed_clock, served_setpoints, claim_setpoints};
+ghost use Rattle.model.specs.Attribution.{stamp as stamp_of, recorded, with_attributed, with_armed, armed_clock, served_setpoints, claim_setpoints};
 
 use records::{
     Amount, Attributed, Config, Controller, Readings, Second, SetpointChangeState, Settings,
@@ -13,7 +13,7 @@ use records::{
 use units::Hundredths;
 
 fn second_or_zero(s: Second) -> u32
-    ensures { result ≡ stampOf NoSecond s }
+    ensures { result ≡ stamp_of NoSecond s }
 {
     match s {
         Second::NoSecond => 0,
@@ -23,7 +23,7 @@ fn second_or_zero(s: Second) -> u32
 
 // The hook's second, else the armed one, else 0.
 fn stamp(hook: Second, armed: Second) -> u32
-    ensures { result ≡ stampOf hook armed }
+    ensures { result ≡ stamp_of hook armed }
 {
     match hook {
         Second::NoSecond => second_or_zero(armed),

@@ -40,12 +40,12 @@ raise_both cfg d amount r =
     let h = heating_target cfg s amount in
     let c = cooling_target cfg s amount in
     let kept = heating_after_gap cfg amount r.attrs in
-    let heatingMoved = changed_to s.heating h in
-    let coolingMoved = changed_to s.cooling c in
-    let heatingRecorded = recorded_if heatingMoved d external s.heating h r.change in
+    let heating_moved = changed_to s.heating h in
+    let cooling_moved = changed_to s.cooling c in
+    let heating_recorded = recorded_if heating_moved d external s.heating h r.change in
     record {
-      rec = claim_setpoints cfg (with_change (with_attrs r (set_heating (targets_stored cfg amount r.attrs) kept)) (recorded_if coolingMoved d external s.cooling c heatingRecorded));
-      notices = (only_if heatingMoved (noticed cfg 0x12 ++ source_notices cfg) ++ only_if coolingMoved (noticed cfg 0x11 ++ source_notices cfg)) ++ only_if (changed_to h kept) (noticed cfg 0x12);
+      rec = claim_setpoints cfg (with_change (with_attrs r (set_heating (targets_stored cfg amount r.attrs) kept)) (recorded_if cooling_moved d external s.cooling c heating_recorded));
+      notices = (only_if heating_moved (noticed cfg 0x12 ++ source_notices cfg) ++ only_if cooling_moved (noticed cfg 0x11 ++ source_notices cfg)) ++ only_if (changed_to h kept) (noticed cfg 0x12);
     }
 
 -- Where the gap was kept at entry both targets keep it,

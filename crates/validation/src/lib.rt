@@ -4,7 +4,7 @@
 ghost use Rattle.std.specs.Prelude.{◌≡◌, cond, ◌||◌};
 ghost use Rattle.model.specs.Refusals.{then_rows};
 ghost use Rattle.model.specs.Served.{supports_events, some_heat_limit, some_cool_limit};
-ghost use Rattle.model.specs.Validation.{differ as differOf, feature_rows, attribute_row, attribute_rows, limit_rows, event_row, event_rows, number_rows, validated};
+ghost use Rattle.model.specs.Validation.{differ as differ_of, feature_rows, attribute_row, attribute_rows, limit_rows, event_row, event_rows, number_rows, validated};
 
 use records::{Config, answer_number, attribute_id, command_id, event_id, feature};
 use units::Hundredths;
@@ -19,7 +19,7 @@ fn row(n: u8, cause: bool, rest: u8) -> u8
 }
 
 fn differ(a: bool, b: bool) -> bool
-    ensures { result ≡ differOf a b }
+    ensures { result ≡ differ_of a b }
 {
     if a {
         return !b;
