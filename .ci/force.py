@@ -61,7 +61,10 @@ def function_at(crate, file, line):
     after = [m[1] for m in map(FUNCTION.match, text[line - 1:]) if m]
     name = after[0] if text[line - 1].lstrip().startswith('#[') or not before else before[-1]
     module = file[len('src/'):-len('.rt')]
-    return '::'.join([crate] + ([] if module in ('lib', 'main') else module.split('/')) + [name])
+    opened = [i for i, l in enumerate(text[:line]) if l.startswith('impl ')]
+    method = opened and '}' not in text[opened[-1]:line]
+    of = [re.match(r'impl (\w+)', text[opened[-1]])[1]] if method else []
+    return '::'.join([crate] + ([] if module in ('lib', 'main') else module.split('/')) + of + [name])
 
 
 def row(told, top, crate, path):
