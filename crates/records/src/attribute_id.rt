@@ -1,42 +1,25 @@
-// Attribute codes of the cluster.
-
-pub const LOCAL_TEMPERATURE: u16 = 0x00;
-
-pub const ABS_MIN_HEAT_SETPOINT_LIMIT: u16 = 0x03;
-
-pub const ABS_MAX_HEAT_SETPOINT_LIMIT: u16 = 0x04;
-
-pub const ABS_MIN_COOL_SETPOINT_LIMIT: u16 = 0x05;
-
-pub const ABS_MAX_COOL_SETPOINT_LIMIT: u16 = 0x06;
-
-pub const OCCUPIED_COOLING_SETPOINT: u16 = 0x11;
-
-pub const OCCUPIED_HEATING_SETPOINT: u16 = 0x12;
-
-pub const MIN_HEAT_SETPOINT_LIMIT: u16 = 0x15;
-
-pub const MAX_HEAT_SETPOINT_LIMIT: u16 = 0x16;
-
-pub const MIN_COOL_SETPOINT_LIMIT: u16 = 0x17;
-
-pub const MAX_COOL_SETPOINT_LIMIT: u16 = 0x18;
-
-pub const MIN_SETPOINT_DEAD_BAND: u16 = 0x19;
-
-pub const CONTROL_SEQUENCE_OF_OPERATION: u16 = 0x1B;
-
-pub const SYSTEM_MODE: u16 = 0x1C;
-
-pub const THERMOSTAT_RUNNING_MODE: u16 = 0x1E;
-
-pub const THERMOSTAT_RUNNING_STATE: u16 = 0x29;
-
-pub const SETPOINT_CHANGE_SOURCE: u16 = 0x30;
-
-pub const SETPOINT_CHANGE_AMOUNT: u16 = 0x31;
-
-pub const SETPOINT_CHANGE_SOURCE_TIMESTAMP: u16 = 0x32;
-
-// C-11: one notice for all attributes.
-pub const WHOLE_CLUSTER: u16 = 0xFFFF;
+// Attribute codes of the cluster. Functions take every code of 16 bits, so an attribute goes to them by `as u16`.
+#[derive(Clone, Copy, PartialEq, Eq)]
+pub enum AttributeId {
+    LocalTemperature = 0x00,
+    AbsMinHeatSetpointLimit = 0x03,
+    AbsMaxHeatSetpointLimit = 0x04,
+    AbsMinCoolSetpointLimit = 0x05,
+    AbsMaxCoolSetpointLimit = 0x06,
+    OccupiedCoolingSetpoint = 0x11,
+    OccupiedHeatingSetpoint = 0x12,
+    MinHeatSetpointLimit = 0x15,
+    MaxHeatSetpointLimit = 0x16,
+    MinCoolSetpointLimit = 0x17,
+    MaxCoolSetpointLimit = 0x18,
+    MinSetpointDeadBand = 0x19,
+    ControlSequenceOfOperation = 0x1B,
+    SystemMode = 0x1C,
+    ThermostatRunningMode = 0x1E,
+    ThermostatRunningState = 0x29,
+    SetpointChangeSource = 0x30,
+    SetpointChangeAmount = 0x31,
+    SetpointChangeSourceTimestamp = 0x32,
+    // C-11: one notice for all attributes.
+    WholeCluster = 0xFFFF,
+}

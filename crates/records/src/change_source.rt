@@ -1,7 +1,7 @@
 // Who changed a setpoint.
-
-pub const MANUAL: u8 = 0;
-
-pub const SCHEDULE: u8 = 1;
-
-pub const EXTERNAL: u8 = 2;
+#[derive(Clone, Copy, PartialEq, Eq)]
+pub enum ChangeSource {
+    Manual = 0,
+    Schedule = 1,
+    External = 2,
+}

@@ -1,3 +1,5 @@
 // Command codes of the cluster.
-
-pub const SETPOINT_RAISE_LOWER: u16 = 0;
+#[derive(Clone, Copy, PartialEq, Eq)]
+pub enum CommandId {
+    SetpointRaiseLower = 0,
+}

@@ -1,4 +1,4 @@
-// Control sequences of the cluster.
+// Control sequences of the cluster. A configuration may have any byte, so they are matched as numbers.
 
 pub const COOLING_ONLY: u8 = 0;
 

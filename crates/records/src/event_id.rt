@@ -1,17 +1,12 @@
-// Event codes of the cluster.
-
-pub const SYSTEM_MODE_CHANGE: u16 = 0;
-
-pub const LOCAL_TEMPERATURE_CHANGE: u16 = 1;
-
-pub const OCCUPANCY_CHANGE: u16 = 2;
-
-pub const SETPOINT_CHANGE: u16 = 3;
-
-pub const RUNNING_STATE_CHANGE: u16 = 4;
-
-pub const RUNNING_MODE_CHANGE: u16 = 5;
-
-pub const ACTIVE_SCHEDULE_CHANGE: u16 = 6;
-
-pub const ACTIVE_PRESET_CHANGE: u16 = 7;
+// Event codes of the cluster; to functions, which take every code of 16 bits, by `as u16`.
+#[derive(Clone, Copy, PartialEq, Eq)]
+pub enum EventId {
+    SystemModeChange = 0,
+    LocalTemperatureChange = 1,
+    OccupancyChange = 2,
+    SetpointChange = 3,
+    RunningStateChange = 4,
+    RunningModeChange = 5,
+    ActiveScheduleChange = 6,
+    ActivePresetChange = 7,
+}

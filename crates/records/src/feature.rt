@@ -1,4 +1,4 @@
-// Feature bits of the cluster.
+// Feature bits of the cluster: a configuration has a set of them.
 
 // HEAT
 pub const HEATING: u32 = 0x001;

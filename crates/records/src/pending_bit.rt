@@ -1,21 +1,14 @@
 // Document 01, Messages: the pending bits.
-
-pub const LOCAL_TEMPERATURE: u16 = 0;
-
-pub const OCCUPIED_HEATING_SETPOINT: u16 = 1;
-
-pub const OCCUPIED_COOLING_SETPOINT: u16 = 2;
-
-pub const SYSTEM_MODE: u16 = 3;
-
-pub const MIN_HEAT_LIMIT: u16 = 4;
-
-pub const MAX_HEAT_LIMIT: u16 = 5;
-
-pub const MIN_COOL_LIMIT: u16 = 6;
-
-pub const MAX_COOL_LIMIT: u16 = 7;
-
-pub const RUNNING_STATE: u16 = 8;
-
-pub const EVENT_SWEEP: u16 = 9;
+#[derive(Clone, Copy, PartialEq, Eq)]
+pub enum PendingBit {
+    LocalTemperature = 0,
+    OccupiedHeatingSetpoint = 1,
+    OccupiedCoolingSetpoint = 2,
+    SystemMode = 3,
+    MinHeatLimit = 4,
+    MaxHeatLimit = 5,
+    MinCoolLimit = 6,
+    MaxCoolLimit = 7,
+    RunningState = 8,
+    EventSweep = 9,
+}

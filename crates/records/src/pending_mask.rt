@@ -1,4 +1,4 @@
-// The pending bits, each as a mask, and those that a message sets together.
+// The pending bits, each as a mask, and those that a message sets together: sets of bits.
 
 pub const LOCAL_TEMPERATURE: u16 = 0x001;
 

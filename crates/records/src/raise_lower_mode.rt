@@ -1,7 +1,26 @@
-// The sides that raise/lower names.
+// The sides that raise/lower names. A call may have any byte.
+use crate::Refusal;
 
-pub const HEAT: u8 = 0;
+#[derive(Clone, Copy, PartialEq, Eq)]
+pub enum RaiseLowerMode {
+    Heat = 0,
+    Cool = 1,
+    Both = 2,
+}
 
-pub const COOL: u8 = 1;
+impl TryFrom<u8> for RaiseLowerMode {
+    type Error = Refusal;
 
-pub const BOTH: u8 = 2;
+    ghost use Rattle.records.specs.RaiseLowerModes.{Decodes};
+
+    ghost try_from_gives = { Decodes };
+
+    fn try_from(mode: u8) -> Result<RaiseLowerMode, Refusal> {
+        match mode {
+            0 => Ok(RaiseLowerMode::Heat),
+            1 => Ok(RaiseLowerMode::Cool),
+            2 => Ok(RaiseLowerMode::Both),
+            _ => Err(Refusal::UnknownRaiseLowerMode),
+        }
+    }
+}

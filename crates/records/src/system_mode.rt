@@ -1,4 +1,4 @@
-// System modes of the cluster. The running mode and a setpoint event take theirs from them.
+// System modes of the cluster. A record or a call may have any byte, so they are matched as numbers. The running mode and a setpoint event take theirs from them.
 
 pub const OFF: u8 = 0;
 

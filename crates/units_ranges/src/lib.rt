@@ -1,85 +1,57 @@
 // units/specs/Units: what lies within limits, the greater and the lesser, the nearest number within limits.
 #![tactic(auto)]
 
-ghost use Rattle.std.specs.Int.{w16};
-ghost use Rattle.std.proofs.Common.{SFits};
 ghost use Rattle.std.specs.Prelude.{◌≡◌};
-ghost use Rattle.std.specs.Int.Signed.{lt_z};
-ghost use Rattle.units.specs.Units.{hundredths, greater, lesser, clamped, clamping, saturated_difference, within, Sum};
+ghost use Rattle.units.specs.Units.{greater, lesser, clamped, clamping, saturated_difference, within};
 
-use units::{Clamped, Hundredths, Wide};
+use units::{Clamped, Hundredths, Sum, Wide};
 
-#[tactic(auto, unfolding(units::specs::Units::within))]
+// A number and its limits are parameters of their own, here and below, as in the definitions.
+#[tactic(auto, unfolding(units::specs::Units::within, units::specs::Units::less))]
 pub fn is_within(v: Hundredths, lo: Hundredths, hi: Hundredths) -> bool
     ensures { result ≡ within v lo hi }
 {
-    if units::is_less(v, lo) {
-        return false;
-    }
-    !units::is_less(hi, v)
+    lo <= v && v <= hi
 }
 
-fn is_wide_less(a: Wide, b: Wide) -> bool
-    ensures { result ≡ lt_z a.0 b.0 }
-{
-    let x = a.0;
-    let y = b.0;
-    x < y
-}
-
+// The library's, with the definition's promise.
 #[tactic(auto, unfolding(units::specs::Units::greater, integers::specs::Clamp::max_z))]
 pub fn max(a: Wide, b: Wide) -> Wide
     ensures { result ≡ greater a b }
 {
-    if is_wide_less(a, b) {
-        return b;
-    }
-    a
+    a.max(b)
 }
 
 #[tactic(auto, unfolding(units::specs::Units::lesser, integers::specs::Clamp::min_z))]
 pub fn min(a: Wide, b: Wide) -> Wide
     ensures { result ≡ lesser a b }
 {
-    if is_wide_less(b, a) {
-        return b;
-    }
-    a
+    a.min(b)
 }
 
-// The only step that narrows; `nearest` alone calls it.
-fn narrow(a: Wide) -> Hundredths
-    requires { SFits w16 a.0 }
-    ensures { result ≡ hundredths a.0 }
-{
-    let x = a.0;
-    Hundredths(x as i16)
-}
-
-// The number nearest to `v` within the limits.
+// The number nearest to `v` within the limits. The last step is the only one that narrows.
 #[tactic(auto, unfolding(units::specs::Units::above, units::specs::Units::below, units::specs::Units::clamped, integers::specs::Clamp::clamp_z))]
-fn nearest(v: Wide, lo: Hundredths, hi: Hundredths) -> Hundredths
-    ensures { result ≡ clamped v lo hi }
+fn nearest(v: Sum, lo: Hundredths, hi: Hundredths) -> Hundredths
+    ensures { result ≡ clamped v.wide lo hi }
 {
-    if units::is_above(lo, v) {
+    if units::is_above(lo, v.wide) {
         return lo;
     }
-    if units::is_below(hi, v) {
+    if units::is_below(hi, v.wide) {
         return hi;
     }
-    narrow(v)
+    Hundredths(v.wide.0 as i16)
 }
 
 // The one clamp (C-12): what it gives, and how much of `v` that removes.
 #[tactic(auto, unfolding(units::specs::Units::amount_removed))]
-pub fn clamp(v: Wide, lo: Hundredths, hi: Hundredths) -> Clamped
-    requires { Sum v }
-    ensures { result ≡ clamping v lo hi }
+pub fn clamp(v: Sum, lo: Hundredths, hi: Hundredths) -> Clamped
+    ensures { result ≡ clamping v.wide lo hi }
 {
     let given = nearest(v, lo, hi);
     Clamped {
         given: given,
-        removed: units::asked_less_given(v, given),
+        removed: v - given,
     }
 }
 
@@ -87,6 +59,5 @@ pub fn clamp(v: Wide, lo: Hundredths, hi: Hundredths) -> Clamped
 pub fn saturating_sub(a: Hundredths, b: Hundredths) -> Hundredths
     ensures { result ≡ saturated_difference a b }
 {
-    let c = clamp(units::sub(a, b), Hundredths::LOWEST, Hundredths::HIGHEST);
-    c.given
+    clamp(a - b, Hundredths::LOWEST, Hundredths::HIGHEST).given
 }
