@@ -1,6 +1,6 @@
 -- Line 3 at work: lists that meet its premises on document 01's plant, on one that only heats and on one that only cools; what its premises rule
 -- out; and those of C-11 and C-15. docs/THEOREM.md describes each.
-use Rattle.std.specs.Prelude.{◌≡◌, true, false, List, [], ◌∷◌, ◌++◌, ℕ, ℤ, pos, negsuc}
+use Rattle.std.specs.Prelude.{◌≡◌, true, false, List, [], ◌∷◌, ◌++◌, ℕ, ℤ, pos, negsuc, None, Some}
 use Rattle.model.specs.Validation.{accepted}
 use Rattle.model.specs.Step.{opened}
 use Rattle.model.specs.Plant.{at, plant, plant_settings, no_readings}
@@ -9,8 +9,6 @@ use Rattle.model.specs.Examples.{without_readings, setpoints, first}
 use Rattle.claims.specs.Claims.{limits_entry, LimitsThenWrites, ModeWritten, short_gap_allowed}
 use Rattle.records.specs.declared.Config.{Config}
 use Rattle.records.specs.declared.Settings.{Settings}
-use Rattle.records.specs.declared.Temperature.TheVariants.{Reading}
-use Rattle.records.specs.declared.Second.TheVariants.{NoSecond, At}
 use Rattle.records.specs.declared.OutOfBandMessage.TheVariants.{LocalTemperature, OccupiedHeatingSetpoint, OccupiedCoolingSetpoint}
 use Rattle.records.specs.declared.Call.TheVariants.{WriteOccupiedHeatingSetpoint, WriteOccupiedCoolingSetpoint, WriteMinHeatSetpointLimit, WriteMaxHeatSetpointLimit, WriteMinCoolSetpointLimit, WriteMaxCoolSetpointLimit, WriteSystemMode, RaiseLowerSetpoint, OutOfBand, SeedEvents, Sweep, FactoryReset, Hour}
 
@@ -31,7 +29,7 @@ abbrev pub before : List Entry
 before = without_readings SeedEvents ∷ without_readings (WriteSystemMode 3) ∷ without_readings (WriteOccupiedHeatingSetpoint (at 2950)) ∷ without_readings (OutOfBand (OccupiedHeatingSetpoint (at 1200))) ∷ []
 
 abbrev pub between : List Entry
-between = entry Sweep (record { relaysbefore = 1; relaysafter = 1; temperature = Reading (at 2100); hook = NoSecond; node = At 5; clock = 1000 }) ∷ without_readings (WriteMaxHeatSetpointLimit (at 2600)) ∷ []
+between = entry Sweep (record { relaysbefore = 1; relaysafter = 1; temperature = Some (at 2100); hook = None; node = Some 5; clock = 1000 }) ∷ without_readings (WriteMaxHeatSetpointLimit (at 2600)) ∷ []
 
 abbrev pub both_writes : List Entry
 both_writes = without_readings (WriteOccupiedHeatingSetpoint (at 2000)) ∷ without_readings (WriteOccupiedCoolingSetpoint (at 2100)) ∷ []

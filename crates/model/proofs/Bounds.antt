@@ -1,4 +1,6 @@
 -- No call gives more than 13 notices or 6 events, so packing cuts nothing.
+use Rattle.records.specs.declared.Setpoints.{Setpoints}
+use Rattle.std.specs.Prelude.{Option, None, Some}
 use mathlib.Core.Bool.{Bool, not, ◌||◌, cond}
 use mathlib.Core.List.{List, [], ◌∷◌, ◌++◌}
 use Prim.Native.Nat.{ℕ, ◌≤◌}
@@ -25,14 +27,9 @@ use Rattle.model.specs.Week.{mill_week, acts, store_entry, hour}
 use Rattle.model.specs.Step.{step, step_sound}
 use Rattle.model.specs.Laws.{Bounded, NothingLost}
 use Rattle.records.specs.declared.Config.{Config}
-use Rattle.records.specs.declared.Shadow.{Shadow}
-use Rattle.records.specs.declared.Shadow.TheVariants.{Unseeded, Seeded}
-use Rattle.records.specs.declared.Attributed.{Attributed}
-use Rattle.records.specs.declared.Attributed.TheVariants.{Unclaimed, Claimed}
 use Rattle.records.specs.declared.Event.TheVariants.{SystemModeChange, LocalTemperatureChange, SetpointChange, RunningStateChange, RunningModeChange}
 use Rattle.records.specs.declared.NoticeRow.{NoticeRow}
 use Rattle.records.specs.declared.Snapshot.{Snapshot}
-use Rattle.records.specs.declared.Moment.{Moment}
 use Rattle.records.specs.declared.Controller.{Controller}
 use Rattle.records.specs.declared.Readings.{Readings}
 use Rattle.records.specs.declared.OutOfBandMessage.{OutOfBandMessage}
@@ -40,7 +37,7 @@ use Rattle.records.specs.declared.OutOfBandMessage.TheVariants.{LocalTemperature
 use Rattle.records.specs.declared.Call.{Call}
 use Rattle.records.specs.declared.Call.TheVariants.{WriteOccupiedHeatingSetpoint, WriteOccupiedCoolingSetpoint, WriteMinHeatSetpointLimit, WriteMaxHeatSetpointLimit, WriteMinCoolSetpointLimit, WriteMaxCoolSetpointLimit, WriteSystemMode, SetControlSequenceOfOperation, RaiseLowerSetpoint, ArmClock, OutOfBand, SeedEvents, Sweep, Timer, Deadline, FactoryReset, Hour}
 use Rattle.model.proofs.Logic.{length_only_if, by_cond, by_unless}
-use Rattle.model.proofs.Packing.{packed_codes, packed_slots}
+use Rattle.model.proofs.Packing.{packed_codes, packed_items}
 
 -- at most n of them
 abbrev AtMost : {A : Type 0} → ℕ → List A → Type 0
@@ -150,22 +147,22 @@ module _ (cfg : Config) (d : Readings) where
   table_most p [] = omega arith
   table_most p (w ∷ ws) = let h = table_most p ws in simp length-append (omega (arith, row_most p w))
 
-  local_most : (r : Controller) (a b : Attributed) → AtMost 3 (attributed_to cfg d r a b).notices
-  local_most r Unclaimed Unclaimed = omega arith
-  local_most r (Claimed h c) Unclaimed = omega arith
-  local_most r Unclaimed (Claimed h c) = omega arith
-  local_most r (Claimed oldh oldc) (Claimed h c) =
-      pick_most 3 (changed_to oldh h || changed_to oldc c) (local_recorded cfg d r oldh oldc h c) (unchanged r) source_most (omega arith)
+  local_most : (r : Controller) (a b : Option Setpoints) → AtMost 3 (attributed_to cfg d r a b).notices
+  local_most r None None = omega arith
+  local_most r (Some new) None = omega arith
+  local_most r None (Some new) = omega arith
+  local_most r (Some old) (Some new) =
+      pick_most 3 (changed_to old.heating new.heating || changed_to old.cooling new.cooling) (local_recorded cfg d r old new) (unchanged r) source_most (omega arith)
 
-  events_most : (old new : Snapshot) (last : Moment) (now : ℕ) → AtMost 6 (events_of cfg old new last now)
+  events_most : (old new : Snapshot) (last : Option ℕ) (now : ℕ) → AtMost 6 (events_of cfg old new last now)
   unfolding events_of
   events_most old new last now =
       simp length-append
       (omega (arith, one_if_lem (mode_emitted cfg old new) (SystemModeChange old.mode new.mode), one_if_lem (temperature_emitted cfg old new last now) (LocalTemperatureChange new.temperature), one_if_lem (cooling_emitted cfg old new) (SetpointChange 3 old.cooling new.cooling), one_if_lem (heating_emitted cfg old new) (SetpointChange 4 old.heating new.heating), one_if_lem (relays_emitted cfg old new) (RunningStateChange old.relays new.relays), one_if_lem (running_mode_emitted cfg old new) (RunningModeChange old.runningmode new.runningmode)))
 
-  from_most : (r : Controller) (s : Shadow) → AtMost 6 (taken_from cfg d r s).events
-  from_most r Unseeded = omega arith
-  from_most r (Seeded old) =
+  from_most : (r : Controller) (s : Option Snapshot) → AtMost 6 (taken_from cfg d r s).events
+  from_most r None = omega arith
+  from_most r (Some old) =
       by_cond (λ (t : Taken). AtMost 6 t.events) (same_snapshot old (snapshot_of cfg d r)) _ _ (λ e. omega arith) (λ e. events_most old (snapshot_of cfg d r) r.events.last d.clock)
 
   taken_most : (r : Controller) → AtMost 6 (take_events cfg d r).events
@@ -222,4 +219,4 @@ unfolding step
 bounded cfg r d k = guarded _ r _ (sound_bounded cfg r d k)
 
 pub nothing_lost : NothingLost
-nothing_lost cfg r d k = let b = bounded cfg r d k in (packed_codes (step cfg r d k).notices b.0, packed_slots (step cfg r d k).events b.1)
+nothing_lost cfg r d k = let b = bounded cfg r d k in (packed_codes (step cfg r d k).notices b.0, packed_items (step cfg r d k).events b.1)

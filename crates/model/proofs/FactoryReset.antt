@@ -1,4 +1,5 @@
 -- C-11: the whole answer of a reset, by formulas; and what does not look at the defaults.
+use Rattle.std.specs.Prelude.{None}
 use mathlib.Core.Path.{refl, ap}
 use mathlib.Core.Bool.{false}
 use mathlib.Core.List.{[], ◌∷◌}
@@ -8,7 +9,6 @@ use Rattle.model.specs.Orders.{order_of, ask_sweep}
 use Rattle.model.specs.FactoryReset.{defaults_taken, whole_cluster, factory_reset, ResetByFormula, DefaultsNotTested}
 use Rattle.model.specs.Everything.{everything}
 use Rattle.records.specs.declared.Settings.{Settings}
-use Rattle.records.specs.declared.Moment.TheVariants.{Never}
 use Rattle.model.proofs.Valid.{valid}
 use Rattle.model.proofs.Repair.{by_formula}
 
@@ -21,7 +21,7 @@ reset_by_formula cfg r ok =
       order = order_of s;
       notices = whole_cluster ∷ [];
       events = [];
-      deadline = Never;
+      deadline = None;
     } in
     ap whole (by_formula cfg (valid cfg ok) (defaults_taken cfg r.attrs))
 

@@ -1,4 +1,7 @@
 -- One call: the gap is kept, or a short one is allowed.
+use Rattle.records.specs.declared.Snapshot.{Snapshot}
+use Rattle.records.specs.declared.Setpoints.{Setpoints}
+use Rattle.std.specs.Prelude.{Option, None, Some}
 use mathlib.Core.Path.{◌≡◌, refl, sym, ◌∙◌, subst}
 use mathlib.Core.Bool.{Bool, true, false, ◌||◌, cond}
 use mathlib.Core.List.{List}
@@ -33,10 +36,6 @@ use Rattle.model.specs.Step.{opened, step, step_sound}
 use Rattle.records.specs.declared.Config.{Config}
 use Rattle.records.specs.declared.Settings.{Settings}
 use Rattle.records.specs.declared.Attrs.{Attrs}
-use Rattle.records.specs.declared.Shadow.{Shadow}
-use Rattle.records.specs.declared.Shadow.TheVariants.{Unseeded, Seeded}
-use Rattle.records.specs.declared.Attributed.{Attributed}
-use Rattle.records.specs.declared.Attributed.TheVariants.{Unclaimed, Claimed}
 use Rattle.records.specs.declared.Controller.{Controller}
 use Rattle.records.specs.declared.Readings.{Readings}
 use Rattle.records.specs.declared.OutOfBandMessage.{OutOfBandMessage}
@@ -134,17 +133,17 @@ module _ (cfg : Config) (v : Valid cfg) (d : Readings) where
 
 -- the settings that calls without a store of settings leave
 module _ (cfg : Config) (d : Readings) where
-  local_attrs : (r : Controller) (a b : Attributed) → (attributed_to cfg d r a b).rec.attrs ≡ r.attrs
-  local_attrs r Unclaimed Unclaimed = refl
-  local_attrs r (Claimed h c) Unclaimed = refl
-  local_attrs r Unclaimed (Claimed h c) = refl
-  local_attrs r (Claimed oldh oldc) (Claimed h c) =
-      by_cond (λ (q : Stage). q.rec.attrs ≡ r.attrs) (changed_to oldh h || changed_to oldc c) (local_recorded cfg d r oldh oldc h c) (unchanged r) (λ e. refl) (λ e. refl)
+  local_attrs : (r : Controller) (a b : Option Setpoints) → (attributed_to cfg d r a b).rec.attrs ≡ r.attrs
+  local_attrs r None None = refl
+  local_attrs r (Some new) None = refl
+  local_attrs r None (Some new) = refl
+  local_attrs r (Some old) (Some new) =
+      by_cond (λ (q : Stage). q.rec.attrs ≡ r.attrs) (changed_to old.heating new.heating || changed_to old.cooling new.cooling) (local_recorded cfg d r old new) (unchanged r) (λ e. refl) (λ e. refl)
 
-  taken_attrs : (r : Controller) (s : Shadow) → (taken_from cfg d r s).rec.attrs ≡ r.attrs
+  taken_attrs : (r : Controller) (s : Option Snapshot) → (taken_from cfg d r s).rec.attrs ≡ r.attrs
   unfolding started claim_setpoints
-  taken_attrs r Unseeded = refl
-  taken_attrs r (Seeded old) = by_cond (λ (t : Taken). t.rec.attrs ≡ r.attrs) (same_snapshot old (snapshot_of cfg d r)) _ _ (λ e. refl) (λ e. refl)
+  taken_attrs r None = refl
+  taken_attrs r (Some old) = by_cond (λ (t : Taken). t.rec.attrs ≡ r.attrs) (same_snapshot old (snapshot_of cfg d r)) _ _ (λ e. refl) (λ e. refl)
 
   pub events_attrs : (r : Controller) → (take_events cfg d r).rec.attrs ≡ r.attrs
   unfolding take_events

@@ -1,4 +1,7 @@
 -- What row 28 asks of a record, and that each store and message keeps it.
+use Rattle.records.specs.declared.Snapshot.{Snapshot}
+use Rattle.records.specs.declared.Setpoints.{Setpoints}
+use Rattle.std.specs.Prelude.{Option, None, Some}
 use mathlib.Core.Path.{◌≡◌}
 use mathlib.Core.Bool.{true, false, ◌&&◌, ◌||◌}
 use Prim.Native.Nat.{ℕ}
@@ -23,12 +26,6 @@ use Rattle.model.specs.Messages.{out_of_band_message, heating_message, cooling_m
 use Rattle.model.specs.Sweep.{Taken, snapshot_of, started, attributed_to, local_recorded, attribute_local_setpoint_change, same_snapshot, committed, temperature_emitted, taken_from, take_events, sweep_events, swept}
 use Rattle.records.specs.declared.Config.{Config}
 use Rattle.records.specs.declared.Settings.{Settings}
-use Rattle.records.specs.declared.Moment.{Moment}
-use Rattle.records.specs.declared.Moment.TheVariants.{Ms}
-use Rattle.records.specs.declared.Shadow.{Shadow}
-use Rattle.records.specs.declared.Shadow.TheVariants.{Unseeded, Seeded}
-use Rattle.records.specs.declared.Attributed.{Attributed}
-use Rattle.records.specs.declared.Attributed.TheVariants.{Unclaimed, Claimed}
 use Rattle.records.specs.declared.Controller.{Controller}
 use Rattle.records.specs.declared.Readings.{Readings}
 use Rattle.records.specs.declared.OutOfBandMessage.{OutOfBandMessage}
@@ -209,26 +206,26 @@ module _ (cfg : Config) (v : Valid cfg) (d : Readings) where
   unfolding applied ask_sweep
   applied_good q g = record { placed = g.placed; mode = g.mode; last = g.last }
 
-  pub local_good : (r : Controller) (a b : Attributed) → Good cfg r → GoodStage (attributed_to cfg d r a b)
-  local_good r Unclaimed Unclaimed g = g
-  local_good r (Claimed h c) Unclaimed g = g
-  local_good r Unclaimed (Claimed h c) g = record { placed = g.placed; mode = g.mode; last = g.last }
-  local_good r (Claimed oldh oldc) (Claimed h c) g =
-      by_cond GoodStage (changed_to oldh h || changed_to oldc c) (local_recorded cfg d r oldh oldc h c) (unchanged r) (λ e. record { placed = g.placed; mode = g.mode; last = g.last }) (λ e. g)
+  pub local_good : (r : Controller) (a b : Option Setpoints) → Good cfg r → GoodStage (attributed_to cfg d r a b)
+  local_good r None None g = g
+  local_good r (Some new) None g = g
+  local_good r None (Some new) g = record { placed = g.placed; mode = g.mode; last = g.last }
+  local_good r (Some old) (Some new) g =
+      by_cond GoodStage (changed_to old.heating new.heating || changed_to old.cooling new.cooling) (local_recorded cfg d r old new) (unchanged r) (λ e. record { placed = g.placed; mode = g.mode; last = g.last }) (λ e. g)
 
   -- a clock that row 27 lets pass is a last event that row 28 lets pass
-  pub clock_sound : ltb last_clock d.clock ≡ false → sound_last (Ms d.clock) ≡ true
+  pub clock_sound : ltb last_clock d.clock ≡ false → sound_last (Some d.clock) ≡ true
   clock_sound e = le-leb d.clock last_clock (ltb-false last_clock d.clock e)
 
-  pub taken_good : (r : Controller) (s : Shadow) → ltb last_clock d.clock ≡ false → Good cfg r → Good cfg (taken_from cfg d r s).rec
+  pub taken_good : (r : Controller) (s : Option Snapshot) → ltb last_clock d.clock ≡ false → Good cfg r → Good cfg (taken_from cfg d r s).rec
   unfolding committed
-  taken_good r Unseeded e g = started_good r g
-  taken_good r (Seeded old) e g =
+  taken_good r None e g = started_good r g
+  taken_good r (Some old) e g =
       by_cond (λ (t : Taken). Good cfg t.rec) (same_snapshot old (snapshot_of cfg d r)) _ _ (λ f. g)
       (λ f. record {
         placed = g.placed;
         mode = g.mode;
-        last = by_cond (λ (m : Moment). sound_last m ≡ true) (temperature_emitted cfg old (snapshot_of cfg d r) r.events.last d.clock) (Ms d.clock) r.events.last (λ t. clock_sound e) (λ t. g.last);
+        last = by_cond (λ (m : Option ℕ). sound_last m ≡ true) (temperature_emitted cfg old (snapshot_of cfg d r) r.events.last d.clock) (Some d.clock) r.events.last (λ t. clock_sound e) (λ t. g.last);
       })
 
   pub events_good : (r : Controller) → ltb last_clock d.clock ≡ false → Good cfg r → Good cfg (take_events cfg d r).rec

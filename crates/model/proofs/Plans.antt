@@ -1,4 +1,5 @@
 -- Each write is its plan carried out.
+use Rattle.std.specs.Prelude.{Option, None, Some}
 use mathlib.Core.Path.{◌≡◌, refl, sym, ◌∙◌, ap, subst}
 use mathlib.Core.Bool.{Bool, true, false, ◌&&◌, ◌||◌, cond}
 use mathlib.Core.List.{List, [], ◌∷◌, ◌++◌, append-nil}
@@ -33,8 +34,6 @@ use Rattle.records.specs.declared.Removed.{Removed}
 use Rattle.records.specs.declared.Plan.{Plan}
 use Rattle.records.specs.declared.Stored.{Stored}
 use Rattle.records.specs.declared.Stored.TheVariants.{Nothing, MinHeat, MaxHeat, MinCool, MaxCool, Mode}
-use Rattle.records.specs.declared.Planned.{Planned}
-use Rattle.records.specs.declared.Planned.TheVariants.{NoWrite, Write}
 use Rattle.records.specs.declared.Call.TheVariants.{WriteOccupiedHeatingSetpoint, WriteOccupiedCoolingSetpoint, WriteMinHeatSetpointLimit, WriteMaxHeatSetpointLimit, WriteMinCoolSetpointLimit, WriteMaxCoolSetpointLimit, WriteSystemMode, SetControlSequenceOfOperation, RaiseLowerSetpoint, ArmClock, OutOfBand, SeedEvents, Sweep, Timer, Deadline, FactoryReset, Hour}
 use Rattle.model.proofs.Logic.{both, clash, by_cond, both_cond}
 use Rattle.model.proofs.RepairedSettings.{or_false, stored_same}
@@ -60,18 +59,18 @@ or_assoc : (a b c : Bool) → (a || b) || c ≡ a || (b || c)
 or_assoc true b c = refl
 or_assoc false b c = refl
 
-abbrev plan_or : Plan → Planned → Plan
-plan_or p NoWrite = p
-plan_or p (Write q) = q
+abbrev plan_or : Plan → Option Plan → Plan
+plan_or p None = p
+plan_or p (Some q) = q
 
-pub write_of : {p q : Plan} → Write p ≡ Write q → p ≡ q
+pub write_of : {p q : Plan} → Some p ≡ Some q → p ≡ q
 write_of {p = p} e = ap (plan_or p) e
 
-abbrev is_write : Planned → Bool
-is_write NoWrite = false
-is_write (Write p) = true
+abbrev is_write : Option Plan → Bool
+is_write None = false
+is_write (Some p) = true
 
-pub no_write : {p : Plan} → NoWrite ≡ Write p → ⊥
+pub no_write : {p : Plan} → None ≡ Some p → ⊥
 no_write e = clash true refl (sym (ap is_write e))
 
 -- refused rows
@@ -87,7 +86,7 @@ by_plan cfg d r (w ∷ ws) s p o m e =
     go false n f = f
 
 -- the same where a call may be no write
-by_planned : (cfg : Config) (d : Readings) (r : Controller) (ws : List Row) (s : Settings) (x : Planned) (o : Outcome) → numbered ws ≡ true → DoneAsPlanned cfg d r x o → DoneAsPlanned cfg d r (planned_unless ws s x) (unless ws r o)
+by_planned : (cfg : Config) (d : Readings) (r : Controller) (ws : List Row) (s : Settings) (x : Option Plan) (o : Outcome) → numbered ws ≡ true → DoneAsPlanned cfg d r x o → DoneAsPlanned cfg d r (planned_unless ws s x) (unless ws r o)
 unfolding planned_unless unless carried_out
 by_planned cfg d r [] s x o m e = e
 by_planned cfg d r (w ∷ ws) s x o m e =
@@ -253,4 +252,4 @@ planned_carried cfg r d Sweep p e = absurd (no_write e)
 planned_carried cfg r d Timer p e = absurd (no_write e)
 planned_carried cfg r d Deadline p e = absurd (no_write e)
 planned_carried cfg r d FactoryReset p e = absurd (no_write e)
-planned_carried cfg r d (Hour h) p e = subst (λ (x : Planned). DoneAsPlanned cfg d r x (hour mill_week cfg r d h)) e (hour_carried mill_week cfg r d h)
+planned_carried cfg r d (Hour h) p e = subst (λ (x : Option Plan). DoneAsPlanned cfg d r x (hour mill_week cfg r d h)) e (hour_carried mill_week cfg r d h)

@@ -1,4 +1,5 @@
 -- C-12: what a call removes stands in its plan, and the gap push cuts nothing.
+use Rattle.std.specs.Prelude.{Option, None, Some}
 use mathlib.Core.Path.{◌≡◌, refl, sym, ◌∙◌, ap, subst}
 use mathlib.Core.Bool.{Bool, true, false, cond}
 use mathlib.Core.List.{List, [], ◌∷◌}
@@ -43,8 +44,6 @@ use Rattle.records.specs.declared.Plan.{Plan}
 use Rattle.records.specs.declared.Stored.{Stored}
 use Rattle.records.specs.declared.Stored.TheVariants.{MinHeat, MaxHeat, MinCool, MaxCool}
 use Rattle.records.specs.declared.Sides.TheVariants.{Heating, Cooling}
-use Rattle.records.specs.declared.Planned.{Planned}
-use Rattle.records.specs.declared.Planned.TheVariants.{NoWrite, Write}
 use Rattle.records.specs.declared.OutOfBandMessage.TheVariants.{LocalTemperature, RunningState, Update, OccupiedHeatingSetpoint, OccupiedCoolingSetpoint, SystemMode, SetpointLimits}
 use Rattle.records.specs.declared.Call.{Call}
 use Rattle.records.specs.declared.Call.TheVariants.{WriteOccupiedHeatingSetpoint, WriteOccupiedCoolingSetpoint, WriteMinHeatSetpointLimit, WriteMaxHeatSetpointLimit, WriteMinCoolSetpointLimit, WriteMaxCoolSetpointLimit, WriteSystemMode, SetControlSequenceOfOperation, RaiseLowerSetpoint, ArmClock, OutOfBand, SeedEvents, Sweep, Timer, Deadline, FactoryReset, Hour}
@@ -58,16 +57,16 @@ use Rattle.model.proofs.Good.{Good, good, sound_accepted, points_placed, heating
 use Rattle.model.proofs.Kept.{min_heat_tests, max_heat_tests, min_cool_tests, max_cool_tests}
 
 -- a fact about the plan, where there is one
-abbrev OfWrite {ℓ} : (Plan → Type ℓ) → Planned → Type ℓ
-OfWrite P NoWrite = Unit
-OfWrite P (Write p) = P p
+abbrev OfWrite {ℓ} : (Plan → Type ℓ) → Option Plan → Type ℓ
+OfWrite P None = Unit
+OfWrite P (Some p) = P p
 
 -- every write that an hour of any week can plan
-by_hour {ℓ} : (P : Plan → Type ℓ) (w : Week) (cfg : Config) (s : Settings) (h : ℕ) → ((n : ℕ) → P (refusal s n)) → P (entry_to cfg s (w h)) → (p : Plan) → plan_hour w cfg s h ≡ Write p → P p
+by_hour {ℓ} : (P : Plan → Type ℓ) (w : Week) (cfg : Config) (s : Settings) (h : ℕ) → ((n : ℕ) → P (refusal s n)) → P (entry_to cfg s (w h)) → (p : Plan) → plan_hour w cfg s h ≡ Some p → P p
 unfolding plan_hour planned_unless
 by_hour P w cfg s h f g p e = subst (OfWrite P) e (refused_too (hour_rows cfg h) _ (by_cond (OfWrite P) (acts w h) _ _ (λ t. g) (λ t. tt)))
   where
-    refused_too : (ws : List Row) (x : Planned) → OfWrite P x → OfWrite P (planned_unless ws s x)
+    refused_too : (ws : List Row) (x : Option Plan) → OfWrite P x → OfWrite P (planned_unless ws s x)
     refused_too [] x t = t
     refused_too (w ∷ ws) x t = by_cond (OfWrite P) w.cause _ _ (λ e. f w.number) (λ e. refused_too ws x t)
 
@@ -126,7 +125,7 @@ cool_pull_removed : (cfg : Config) (t : Settings) (x : Stored) → RemovesNothin
 unfolding cooling_pulled
 cool_pull_removed cfg t x = by_cond RemovesNothing (in_cool_limits cfg t t.cooling) _ _ (λ e. refl) (λ e. refl)
 
-done_removed : (cfg : Config) (a : Attrs) (k : Call) (p : Plan) → planned cfg a.settings k ≡ Write p → eqb p.number 0 ≡ true → p.removed ≡ removed_when_done cfg a k
+done_removed : (cfg : Config) (a : Attrs) (k : Call) (p : Plan) → planned cfg a.settings k ≡ Some p → eqb p.number 0 ≡ true → p.removed ≡ removed_when_done cfg a k
 unfolding planned removed_when_done plan_heating_setpoint plan_cooling_setpoint plan_min_heat_limit plan_max_heat_limit plan_min_cool_limit plan_max_cool_limit plan_system_mode plan_raise_lower
 done_removed cfg a (WriteOccupiedHeatingSetpoint v) p e n = ap (λ (q : Plan). q.removed) (sym (write_of e)) ∙ by_rows RemovesNothing (heating_rows cfg a.settings v) _ _ (λ m. refl) (λ c. refl)
 done_removed cfg a (WriteOccupiedCoolingSetpoint v) p e n = ap (λ (q : Plan). q.removed) (sym (write_of e)) ∙ by_rows RemovesNothing (cooling_rows cfg a.settings v) _ _ (λ m. refl) (λ c. refl)
@@ -278,7 +277,7 @@ module _ (cfg : Config) (v : Valid cfg) (r : Controller) (g : Good cfg r) where
       (λ f. heating_push cfg v _ (points_placed cfg v s l s.heating _ (heating_inside cfg s g.placed.heating) (λ z. raised_cool cfg v no_readings s amount k)))
       (λ f. heating_push cfg v _ (points_placed cfg v s l (heating_target cfg s amount) (cooling_target cfg s amount) (heat_target cfg v no_readings s amount k) (cool_target cfg v no_readings s amount k))))
 
-  plan_pushes : (k : Call) (p : Plan) → planned cfg s k ≡ Write p → Pushes p
+  plan_pushes : (k : Call) (p : Plan) → planned cfg s k ≡ Some p → Pushes p
   unfolding planned plan_heating_setpoint plan_cooling_setpoint plan_min_heat_limit plan_max_heat_limit plan_min_cool_limit plan_max_cool_limit plan_system_mode plan_raise_lower in_heat_limits in_cool_limits min_heat_setpoint max_heat_setpoint min_cool_setpoint max_cool_setpoint
   plan_pushes (WriteOccupiedHeatingSetpoint x) p e =
       subst Pushes (write_of e) (by_rows Pushes (heating_rows cfg s x) s _ (λ n. tt)

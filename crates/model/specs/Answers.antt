@@ -1,15 +1,10 @@
 -- What a call gives, with notices and events as lists; and the answer, which holds them as an array and a length.
-use Rattle.std.specs.Prelude.{Bool, true, false, cond, List, [], ◌∷◌, ◌++◌, ℕ, ◌+◌, ltb, set}
-use Rattle.records.specs.Records.{no_notices, no_events, nothing_removed}
-use Rattle.records.specs.declared.Moment.{Moment}
-use Rattle.records.specs.declared.Moment.TheVariants.{Never}
+use Rattle.std.specs.Prelude.{Bool, true, false, List, [], ◌∷◌, ◌++◌, ℕ, Option, None, Some}
+use Rattle.records.specs.FixedLists.{pushed}
+use Rattle.records.specs.Records.{Notices, Events, no_notices, no_events, nothing_removed}
+use Rattle.records.specs.declared.PlantOrder.{PlantOrder}
 use Rattle.records.specs.declared.Controller.{Controller}
-use Rattle.records.specs.declared.Order.{Order}
-use Rattle.records.specs.declared.Order.TheVariants.{NoOrder}
 use Rattle.records.specs.declared.Event.{Event}
-use Rattle.records.specs.declared.EventSlot.{EventSlot}
-use Rattle.records.specs.declared.Notices.{Notices}
-use Rattle.records.specs.declared.Events.{Events}
 use Rattle.records.specs.declared.Removed.{Removed}
 use Rattle.records.specs.declared.Answer.{Answer}
 
@@ -17,10 +12,10 @@ use Rattle.records.specs.declared.Answer.{Answer}
 pub record Outcome : Type 0 where
   pub number : ℕ
   pub rec : Controller
-  pub order : Order
+  pub order : Option PlantOrder
   pub notices : List ℕ
   pub events : List Event
-  pub deadline : Moment
+  pub deadline : Option ℕ
 
 -- a record under way, with the notices so far
 pub record Stage : Type 0 where
@@ -34,13 +29,10 @@ only_if false l = []
 
 -- a full array is left alone
 unfoldable pub push : Notices → ℕ → Notices
-push n code = cond (ltb n.len 13) (record { codes = set n.codes n.len code; len = n.len + 1 }) n
-
-abbrev pub slot : Event → EventSlot
-slot e = record { event = e }
+push n code = pushed 13 n code
 
 unfoldable pub emit : Events → Event → Events
-emit es e = cond (ltb es.len 6) (record { slots = set es.slots es.len (slot e); len = es.len + 1 }) es
+emit es e = pushed 6 es (Some e)
 
 -- packing: the left fold of pushing, from the empty array
 abbrev pub fold_left : {A B : Type 0} → (A → B → A) → A → List B → A
@@ -69,7 +61,7 @@ answer o = answer_with o nothing_removed
 
 -- a record and nothing else
 abbrev pub quiet : ℕ → Controller → Outcome
-quiet n r = record { number = n; rec = r; order = NoOrder; notices = []; events = []; deadline = Never }
+quiet n r = record { number = n; rec = r; order = None; notices = []; events = []; deadline = None }
 
 -- one stage after another
 abbrev pub and_then : Stage → (Controller → Stage) → Stage

@@ -1,4 +1,4 @@
--- Document 01, Causes and answers: rows 22 to 28, for each call what its causes are, under the names of `answer_number`. The calls' own
+-- Document 01, Causes and answers: rows 22 to 28, for each call what its causes are, under the names of `Refusal`. The calls' own
 -- definitions test them where they stand; law `OwnCase` says that a call's number is that of this table.
 use Rattle.std.specs.Prelude.{Bool, false, not, List, [], ◌∷◌, ℕ, ltb}
 use Rattle.model.specs.Refusals.{Row, row}
@@ -20,19 +20,19 @@ use Rattle.records.specs.declared.Call.TheVariants.{WriteOccupiedHeatingSetpoint
 
 -- what can refuse a call beside row 28, each with its number
 pub record Causes : Type 0 where
-  -- 27 CLOCK_TOO_LATE: sweep or timer at more than 18446744073709491615 ms
+  -- 27 ClockTooLate: sweep or timer at more than 18446744073709491615 ms
   pub late : Bool
-  -- 32 HOUR_OUTSIDE_WEEK: hour above 167
+  -- 32 HourOutsideWeek: hour above 167
   pub outside_week : Bool
-  -- 24 UNSERVED_ATTRIBUTE: write to an unserved attribute
+  -- 24 UnservedAttribute: write to an unserved attribute
   pub unserved : Bool
-  -- 25 UNKNOWN_RAISE_LOWER_MODE: raise/lower mode above 2
+  -- 25 UnknownRaiseLowerMode: raise/lower mode above 2
   pub unknown : Bool
-  -- 23 ABSENT_SIDE: raise/lower names an absent side
+  -- 23 AbsentSide: raise/lower names an absent side
   pub absent : Bool
-  -- 22 OUTSIDE_RULE: write outside its rule
+  -- 22 OutsideRule: write outside its rule
   pub outside : Bool
-  -- 26 UNSUPPORTED_MODE: out-of-band mode unsupported
+  -- 26 UnsupportedMode: out-of-band mode unsupported
   pub unsupported : Bool
 
 abbrev pub none : Causes
@@ -79,7 +79,7 @@ of_call cfg s d Deadline = none
 of_call cfg s d FactoryReset = none
 of_call cfg s d (Hour h) = of_hour cfg h
 
--- order: 28 UNSOUND_RECORD, 27, 32, 24, then 25, 23, 22 or 26
+-- order: 28 UnsoundRecord, 27, 32, 24, then 25, 23, 22 or 26
 abbrev pub rows_in : Bool → Causes → List Row
 rows_in unsound c = row 28 unsound ∷ row 27 c.late ∷ row 32 c.outside_week ∷ row 24 c.unserved ∷ row 25 c.unknown ∷ row 23 c.absent ∷ row 22 c.outside ∷ row 26 c.unsupported ∷ []
 

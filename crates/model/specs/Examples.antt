@@ -1,5 +1,5 @@
 -- Document 01's four traps and the cases of C-11, C-12, C-14, C-15 and C-20, computed on its plant. docs/THEOREM.md describes each.
-use Rattle.std.specs.Prelude.{◌≡◌, true, false, List, [], ◌∷◌, ℕ, ℤ, pos, negsuc}
+use Rattle.std.specs.Prelude.{◌≡◌, true, false, List, [], ◌∷◌, ℕ, ℤ, pos, negsuc, None, Some}
 use Rattle.units.specs.Units.{hundredths}
 use Rattle.records.specs.Records.{current_snapshot}
 use Rattle.model.specs.Answers.{Outcome}
@@ -12,15 +12,8 @@ use Rattle.records.specs.declared.Config.{Config}
 use Rattle.records.specs.declared.Settings.{Settings}
 use Rattle.records.specs.declared.Controller.{Controller}
 use Rattle.records.specs.declared.Readings.{Readings}
-use Rattle.records.specs.declared.Temperature.TheVariants.{NoReading}
-use Rattle.records.specs.declared.Second.TheVariants.{NoSecond, At}
-use Rattle.records.specs.declared.Amount.TheVariants.{NoAmount, Moved}
-use Rattle.records.specs.declared.Attributed.TheVariants.{Claimed}
 use Rattle.records.specs.declared.Removed.{Removed}
-use Rattle.records.specs.declared.Moment.TheVariants.{Never}
-use Rattle.records.specs.declared.Shadow.TheVariants.{Seeded}
 use Rattle.records.specs.declared.Event.TheVariants.{SetpointChange}
-use Rattle.records.specs.declared.Order.TheVariants.{NoOrder, Apply}
 use Rattle.records.specs.declared.OutOfBandMessage.TheVariants.{LocalTemperature, OccupiedHeatingSetpoint, OccupiedCoolingSetpoint, SetpointLimits}
 use Rattle.records.specs.declared.Call.{Call}
 use Rattle.records.specs.declared.Call.TheVariants.{WriteOccupiedHeatingSetpoint, WriteOccupiedCoolingSetpoint, WriteMaxHeatSetpointLimit, RaiseLowerSetpoint, OutOfBand, ArmClock, SeedEvents, Sweep, FactoryReset, Hour}
@@ -54,18 +47,18 @@ EqualWriteKeepsGap =
 -- Trap 3. An out-of-band setpoint is stored without a plant order
 abbrev pub MessageWithoutOrder : Type 0
 MessageWithoutOrder =
-    ((step plant first no_readings (OutOfBand (OccupiedHeatingSetpoint (at 2100)))).order ≡ NoOrder)
-    × ((step plant first no_readings (OutOfBand (OccupiedCoolingSetpoint (at 2100)))).order ≡ NoOrder)
+    ((step plant first no_readings (OutOfBand (OccupiedHeatingSetpoint (at 2100)))).order ≡ None)
+    × ((step plant first no_readings (OutOfBand (OccupiedCoolingSetpoint (at 2100)))).order ≡ None)
 
 -- Trap 4. The armed second is used once: the first record of Both takes it, and the second gets 0 without a hook's second
 abbrev pub node_at : ℕ → Readings
-node_at second = record { relaysbefore = 0; relaysafter = 0; temperature = NoReading; hook = NoSecond; node = At second; clock = 0 }
+node_at second = record { relaysbefore = 0; relaysafter = 0; temperature = None; hook = None; node = Some second; clock = 0 }
 
 abbrev pub raised : ℕ → Controller
 raised mode = (step plant first (node_at 7) (RaiseLowerSetpoint mode (record { 0 = pos 10 }))).rec
 
 abbrev pub ArmedSecondOnce : Type 0
-ArmedSecondOnce = ((raised 0).change.timestamp ≡ 7) × ((raised 2).change.timestamp ≡ 0) × ((raised 2).change.armed ≡ NoSecond)
+ArmedSecondOnce = ((raised 0).change.timestamp ≡ 7) × ((raised 2).change.timestamp ≡ 0) × ((raised 2).change.armed ≡ None)
 
 -- C-14. Both by one degree: each side by the same amount, the armed second in the first record. After an out-of-band setpoint heating gives way, with a
 -- second 0x12 where its target differed, and the gap is looked at even if no target differs. Where heating stands at its limit, cooling's record is the first
@@ -81,21 +74,21 @@ heating_at_limit = without_readings (WriteOccupiedHeatingSetpoint (at 2900)) ∷
 abbrev pub SameAmountForBoth : Type 0
 SameAmountForBoth =
     (setpoints (both_raised [] 10).rec ≡ pos 2100 ∷ pos 2350 ∷ [])
-    × ((both_raised [] 10).rec.change ≡ record { source = 2; amount = Moved (at 100); timestamp = 0; attributed = Claimed (at 2100) (at 2350); armed = NoSecond })
+    × ((both_raised [] 10).rec.change ≡ record { source = 2; amount = Some (at 100); timestamp = 0; attributed = Some (record { heating = at 2100; cooling = at 2350 }); armed = None })
     × ((both_raised [] 10).notices ≡ 0x12 ∷ 0x30 ∷ 0x31 ∷ 0x32 ∷ 0x11 ∷ 0x30 ∷ 0x31 ∷ 0x32 ∷ [])
 
 abbrev pub HeatingGivesWay : Type 0
 HeatingGivesWay =
     (setpoints (both_raised short_gap 10).rec ≡ pos 2000 ∷ pos 2250 ∷ [])
-    × ((both_raised short_gap 10).rec.change.attributed ≡ Claimed (at 2000) (at 2250))
+    × ((both_raised short_gap 10).rec.change.attributed ≡ Some (record { heating = at 2000; cooling = at 2250 }))
     × ((both_raised short_gap 10).notices ≡ 0x12 ∷ 0x30 ∷ 0x31 ∷ 0x32 ∷ 0x11 ∷ 0x30 ∷ 0x31 ∷ 0x32 ∷ 0x12 ∷ [])
     × (setpoints (both_raised short_gap 0).rec ≡ pos 1900 ∷ pos 2150 ∷ [])
-    × ((both_raised short_gap 0).rec.change ≡ record { source = 0; amount = NoAmount; timestamp = 0; attributed = Claimed (at 1900) (at 2150); armed = At 7 })
+    × ((both_raised short_gap 0).rec.change ≡ record { source = 0; amount = None; timestamp = 0; attributed = Some (record { heating = at 1900; cooling = at 2150 }); armed = Some 7 })
     × ((both_raised short_gap 0).notices ≡ 0x12 ∷ [])
 
 abbrev pub FirstRecordIsCoolings : Type 0
 FirstRecordIsCoolings =
-    ((both_raised heating_at_limit 10).rec.change ≡ record { source = 2; amount = Moved (at 50); timestamp = 7; attributed = Claimed (at 2900) (at 3200); armed = NoSecond })
+    ((both_raised heating_at_limit 10).rec.change ≡ record { source = 2; amount = Some (at 50); timestamp = 7; attributed = Some (record { heating = at 2900; cooling = at 3200 }); armed = None })
     × ((both_raised heating_at_limit 10).notices ≡ 0x11 ∷ 0x30 ∷ 0x31 ∷ 0x32 ∷ [])
 
 -- C-20. A panel turns both setpoints, or one, from outside between two sweeps: cooling's amount if both, its own if one; all else is document 01's
@@ -111,11 +104,11 @@ swept_after turned = step plant (run plant first (without_readings SeedEvents �
 abbrev pub PanelMovedBoth : Type 0
 PanelMovedBoth =
     let both = swept_after (heating_turned ∷ cooling_turned ∷ []) in
-    (both.rec.change ≡ record { source = 0; amount = Moved (at 50); timestamp = 7; attributed = Claimed (at 2100) (at 2300); armed = NoSecond })
+    (both.rec.change ≡ record { source = 0; amount = Some (at 50); timestamp = 7; attributed = Some (record { heating = at 2100; cooling = at 2300 }); armed = None })
     × (both.notices ≡ 0x11 ∷ 0x12 ∷ 0x30 ∷ 0x31 ∷ 0x32 ∷ [])
     × (both.events ≡ SetpointChange 3 (at 2250) (at 2300) ∷ SetpointChange 4 (at 2000) (at 2100) ∷ [])
-    × ((swept_after (heating_turned ∷ [])).rec.change.amount ≡ Moved (at 100))
-    × ((swept_after (cooling_turned ∷ [])).rec.change.amount ≡ Moved (at 50))
+    × ((swept_after (heating_turned ∷ [])).rec.change.amount ≡ Some (at 100))
+    × ((swept_after (cooling_turned ∷ [])).rec.change.amount ≡ Some (at 50))
 
 -- C-12. "+2.0 taken as +1.4": two degrees asked, 1.4 degrees of room, 60 hundredths removed. Both has an amount for each side; a mode that is not there has none
 abbrev pub amounts : Removed → List ℤ
@@ -186,7 +179,7 @@ outside_band = record { heating = at 3000; cooling = at 3000; minheat = at 600; 
 
 -- the heat relay closes at the plant order
 abbrev pub heat_started : Readings
-heat_started = record { relaysbefore = 0; relaysafter = 0x01; temperature = NoReading; hook = NoSecond; node = NoSecond; clock = 0 }
+heat_started = record { relaysbefore = 0; relaysafter = 0x01; temperature = None; hook = None; node = None; clock = 0 }
 
 -- A record with a dirty mark, other settings, a pending bit, a snapshot, a claim and an armed second: the defaults are repaired as an opening's settings are, the mark is
 -- cleared though repair set it, heating lost 100, and snapshot, claim and second stay
@@ -202,19 +195,19 @@ DefaultsRepaired =
     × (o.number ≡ 0)
     × (o.rec.attrs.settings ≡ record { heating = at 2900; cooling = at 3150; minheat = at 700; maxheat = at 2900; mincool = at 1600; maxcool = at 3200; mode = 0 })
     × (o.rec.attrs.dirty ≡ false)
-    × (o.order ≡ Apply 0 (at 2900) (at 3150))
+    × (o.order ≡ Some (record { mode = 0; heating = at 2900; cooling = at 3150 }))
     × (o.notices ≡ 0xFFFF ∷ [])
     × (r.pending ≡ 0x201)
     × (o.rec.pending ≡ 0x201)
-    × (o.rec.events ≡ record { shadow = Seeded (current_snapshot NoReading (plant_settings 2000 2250) 0 0); last = Never })
-    × (o.rec.change ≡ record { source = 2; amount = Moved (at 400); timestamp = 0; attributed = Claimed (at 2400) (at 2650); armed = At 7 })
+    × (o.rec.events ≡ record { shadow = Some (current_snapshot None (plant_settings 2000 2250) 0 0); last = None })
+    × (o.rec.change ≡ record { source = 2; amount = Some (at 400); timestamp = 0; attributed = Some (record { heating = at 2400; cooling = at 2650 }); armed = Some 7 })
     × (amounts (removed cfg r heat_started FactoryReset) ≡ pos 100 ∷ pos 0 ∷ [])
 
 -- defaults that need no repair are the settings after it
 abbrev pub DefaultsAsDelivered : Type 0
 DefaultsAsDelivered =
     let o = step plant (moved plant) no_readings FactoryReset in
-    (o.rec.attrs ≡ record { settings = plant.defaults; dirty = false }) × (o.order ≡ Apply 1 (at 2000) (at 2250)) × (o.notices ≡ 0xFFFF ∷ [])
+    (o.rec.attrs ≡ record { settings = plant.defaults; dirty = false }) × (o.order ≡ Some (record { mode = 1; heating = at 2000; cooling = at 2250 })) × (o.notices ≡ 0xFFFF ∷ [])
 
 -- C-15. The plant's Monday: hour 6 finds its 2000 stored, so that it claims the pair and orders the plant, and records nothing; hour 18 is recorded, by the schedule
 abbrev pub at_hour : Controller → ℕ → Outcome
@@ -225,17 +218,17 @@ PlantsMonday =
     let morning = at_hour first 6 in
     let evening = at_hour morning.rec 18 in
     (morning.number ≡ 0)
-    × (morning.order ≡ Apply 1 (at 2000) (at 2250))
+    × (morning.order ≡ Some (record { mode = 1; heating = at 2000; cooling = at 2250 }))
     × (morning.notices ≡ 0x29 ∷ 0x1E ∷ [])
-    × (morning.rec.change ≡ record { source = 0; amount = NoAmount; timestamp = 0; attributed = Claimed (at 2000) (at 2250); armed = NoSecond })
-    × (evening.order ≡ Apply 1 (at 1700) (at 2250))
+    × (morning.rec.change ≡ record { source = 0; amount = None; timestamp = 0; attributed = Some (record { heating = at 2000; cooling = at 2250 }); armed = None })
+    × (evening.order ≡ Some (record { mode = 1; heating = at 1700; cooling = at 2250 }))
     × (evening.notices ≡ 0x12 ∷ 0x30 ∷ 0x31 ∷ 0x32 ∷ 0x29 ∷ 0x1E ∷ [])
-    × (evening.rec.change ≡ record { source = 1; amount = Moved (hundredths (negsuc 299)); timestamp = 0; attributed = Claimed (at 1700) (at 2250); armed = NoSecond })
+    × (evening.rec.change ≡ record { source = 1; amount = Some (hundredths (negsuc 299)); timestamp = 0; attributed = Some (record { heating = at 1700; cooling = at 2250 }); armed = None })
     × (evening.rec.pending ≡ 0x200)
 
 -- It is the hour before that counts, not the setpoint: at 2500 hours 7, 0 and Saturday's 6 change nothing, whatever the relays do. 32 above 167
 abbrev pub Idle : ℕ → Outcome → Type 0
-Idle n o = (o.number ≡ n) × (setpoints o.rec ≡ pos 2500 ∷ pos 2750 ∷ []) × (o.rec.change.source ≡ 2) × (o.order ≡ NoOrder) × (o.notices ≡ [])
+Idle n o = (o.number ≡ n) × (setpoints o.rec ≡ pos 2500 ∷ pos 2750 ∷ []) × (o.rec.change.source ≡ 2) × (o.order ≡ None) × (o.notices ≡ [])
 
 abbrev pub OtherHoursIdle : Type 0
 OtherHoursIdle =

@@ -1,5 +1,5 @@
 -- Document 02, C-11: return to works settings. `factory_reset` of the Rust, which puts the defaults in and does not repair them.
-use Rattle.std.specs.Prelude.{◌≡◌, true, false, [], ◌∷◌, ℕ}
+use Rattle.std.specs.Prelude.{◌≡◌, true, false, [], ◌∷◌, ℕ, None}
 use Rattle.records.specs.Records.{with_attrs, updated}
 use Rattle.model.specs.Answers.{Outcome}
 use Rattle.model.specs.Orders.{order_of, ask_sweep}
@@ -11,7 +11,6 @@ use Rattle.records.specs.declared.Config.{Config}
 use Rattle.records.specs.declared.Settings.{Settings}
 use Rattle.records.specs.declared.Attrs.{Attrs}
 use Rattle.records.specs.declared.Controller.{Controller}
-use Rattle.records.specs.declared.Moment.TheVariants.{Never}
 
 -- the defaults, put in by one store
 abbrev pub defaults_taken : Config → Attrs → Attrs
@@ -43,7 +42,7 @@ ResetByFormula =
       order = order_of s;
       notices = whole_cluster ∷ [];
       events = [];
-      deadline = Never;
+      deadline = None;
     }
 
 -- a configuration with other defaults

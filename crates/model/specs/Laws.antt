@@ -1,7 +1,8 @@
 -- The laws that code and theorem lean on, as statements. Their proofs stand in proofs/.
-use Rattle.std.specs.Prelude.{◌≡◌, ◌⊎◌, true, false, List, map, ℕ, ◌≤◌, length, take}
+use Rattle.units.specs.declared.Hundredths.{Hundredths}
+use Rattle.std.specs.Prelude.{◌≡◌, ◌⊎◌, true, false, List, map, ℕ, ◌≤◌, length, take, Option, Some}
 use Rattle.records.specs.Records.{blank}
-use Rattle.model.specs.Answers.{Outcome, slot, answer, quiet}
+use Rattle.model.specs.Answers.{Outcome, answer, quiet}
 use Rattle.model.specs.Refusals.{Row, none_fails, FirstCause, Clear}
 use Rattle.model.specs.Served.{local_temperature_not_exposed}
 use Rattle.model.specs.Temperature.{with_temperature}
@@ -14,7 +15,6 @@ use Rattle.records.specs.declared.Config.{Config}
 use Rattle.records.specs.declared.Settings.{Settings}
 use Rattle.records.specs.declared.Controller.{Controller}
 use Rattle.records.specs.declared.Readings.{Readings}
-use Rattle.records.specs.declared.Temperature.{Temperature}
 use Rattle.records.specs.declared.Call.{Call}
 
 -- no call gives more than 13 notices or 6 events
@@ -25,8 +25,8 @@ Bounded =
 -- an answer holds its outcome's notices and events whole: the first len codes are the list, and likewise the events
 abbrev pub PackedWhole : Outcome → Type 0
 PackedWhole o =
-    (take (answer o).notices.len (answer o).notices.codes ≡ o.notices)
-    × (take (answer o).events.len (answer o).events.slots ≡ map slot o.events)
+    (take (answer o).notices.len (answer o).notices.items ≡ o.notices)
+    × (take (answer o).events.len (answer o).events.items ≡ map Some o.events)
 
 -- packing loses nothing of any call
 abbrev pub NothingLost : Type 0
@@ -80,5 +80,5 @@ UnsoundRefused = (cfg : Config) (r : Controller) (d : Readings) (k : Call) → s
 -- with LTNE, under which the reported temperature is null, no answer depends on the reading
 abbrev pub TemperatureNotExposed : Type 0
 TemperatureNotExposed =
-    (cfg : Config) (r : Controller) (d : Readings) (t u : Temperature) (k : Call)
+    (cfg : Config) (r : Controller) (d : Readings) (t u : Option Hundredths) (k : Call)
     → local_temperature_not_exposed cfg ≡ true → step cfg r (with_temperature d t) k ≡ step cfg r (with_temperature d u) k

@@ -35,7 +35,7 @@ heating_message cfg r v = quiet 0 (raise_bits (with_attrs r (set_heating r.attrs
 unfoldable pub cooling_message : Config → Controller → Hundredths → Outcome
 cooling_message cfg r v = quiet 0 (raise_bits (with_attrs r (set_cooling r.attrs (clamp_cool_setpoint cfg r.attrs.settings (widened v)))) 0x004)
 
--- a supported mode is stored without plant order; an unsupported one is 26 UNSUPPORTED_MODE
+-- a supported mode is stored without plant order; an unsupported one is 26 UnsupportedMode
 unfoldable pub mode_message : Config → Controller → ℕ → Outcome
 mode_message cfg r v = unless (row 26 (not (is_supported_system_mode cfg v)) ∷ []) r (quiet 0 (raise_bits (with_attrs r (set_mode r.attrs v)) 0x008))
 

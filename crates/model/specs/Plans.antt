@@ -1,6 +1,6 @@
 -- Document 01, Writes, as plans: what each write asks for, and how a plan is carried out. The definitions in the paper's words are those of Writes,
 -- RaiseLower and RaiseBoth; that a plan carried out is its write is a law for each, stated last.
-use Rattle.std.specs.Prelude.{◌≡◌, Bool, true, false, ◌||◌, cond, List, [], ◌∷◌, ◌++◌, ℕ, eqb}
+use Rattle.std.specs.Prelude.{◌≡◌, Bool, true, false, ◌||◌, cond, List, [], ◌∷◌, ◌++◌, ℕ, eqb, Option, None, Some}
 use Rattle.units.specs.Units.{widened, raised}
 use Rattle.units.specs.declared.Hundredths.{Hundredths}
 use Rattle.units.specs.declared.Tenths.{Tenths}
@@ -22,7 +22,6 @@ use Rattle.records.specs.declared.Config.{Config}
 use Rattle.records.specs.declared.Settings.{Settings}
 use Rattle.records.specs.declared.Attrs.{Attrs}
 use Rattle.records.specs.declared.SetpointChangeState.{SetpointChangeState}
-use Rattle.records.specs.declared.Moment.TheVariants.{Never}
 use Rattle.records.specs.declared.Controller.{Controller}
 use Rattle.records.specs.declared.Readings.{Readings}
 use Rattle.records.specs.declared.Call.{Call}
@@ -33,8 +32,6 @@ use Rattle.records.specs.declared.Sides.{Sides}
 use Rattle.records.specs.declared.Sides.TheVariants.{Neither, Heating, Cooling, Both}
 use Rattle.records.specs.declared.Removed.{Removed}
 use Rattle.records.specs.declared.Plan.{Plan}
-use Rattle.records.specs.declared.Planned.{Planned}
-use Rattle.records.specs.declared.Planned.TheVariants.{NoWrite, Write}
 
 -- refused: nothing is stored
 abbrev pub refusal : Settings → ℕ → Plan
@@ -115,30 +112,30 @@ abbrev pub entry_to : Config → Settings → Hundredths → Plan
 entry_to cfg s v = from_source schedule (heating_to s Nothing (clamp_heat_setpoint cfg s (widened v)))
 
 -- an hour that nothing refuses and that does not act is no write
-unfoldable pub planned_unless : List Row → Settings → Planned → Planned
+unfoldable pub planned_unless : List Row → Settings → Option Plan → Option Plan
 planned_unless [] s x = x
-planned_unless (w ∷ ws) s x = cond w.cause (Write (refusal s w.number)) (planned_unless ws s x)
+planned_unless (w ∷ ws) s x = cond w.cause (Some (refusal s w.number)) (planned_unless ws s x)
 
-unfoldable pub plan_hour : Week → Config → Settings → ℕ → Planned
-plan_hour w cfg s h = planned_unless (hour_rows cfg h) s (cond (acts w h) (Write (entry_to cfg s (w h))) NoWrite)
+unfoldable pub plan_hour : Week → Config → Settings → ℕ → Option Plan
+plan_hour w cfg s h = planned_unless (hour_rows cfg h) s (cond (acts w h) (Some (entry_to cfg s (w h))) None)
 
-unfoldable pub planned : Config → Settings → Call → Planned
-planned cfg s (WriteOccupiedHeatingSetpoint v) = Write (plan_heating_setpoint cfg s v)
-planned cfg s (WriteOccupiedCoolingSetpoint v) = Write (plan_cooling_setpoint cfg s v)
-planned cfg s (WriteMinHeatSetpointLimit v) = Write (plan_min_heat_limit cfg s v)
-planned cfg s (WriteMaxHeatSetpointLimit v) = Write (plan_max_heat_limit cfg s v)
-planned cfg s (WriteMinCoolSetpointLimit v) = Write (plan_min_cool_limit cfg s v)
-planned cfg s (WriteMaxCoolSetpointLimit v) = Write (plan_max_cool_limit cfg s v)
-planned cfg s (WriteSystemMode v) = Write (plan_system_mode cfg s v)
-planned cfg s (SetControlSequenceOfOperation v) = NoWrite
-planned cfg s (RaiseLowerSetpoint mode amount) = Write (plan_raise_lower cfg s mode amount)
-planned cfg s ArmClock = NoWrite
-planned cfg s (OutOfBand m) = NoWrite
-planned cfg s SeedEvents = NoWrite
-planned cfg s Sweep = NoWrite
-planned cfg s Timer = NoWrite
-planned cfg s Deadline = NoWrite
-planned cfg s FactoryReset = NoWrite
+unfoldable pub planned : Config → Settings → Call → Option Plan
+planned cfg s (WriteOccupiedHeatingSetpoint v) = Some (plan_heating_setpoint cfg s v)
+planned cfg s (WriteOccupiedCoolingSetpoint v) = Some (plan_cooling_setpoint cfg s v)
+planned cfg s (WriteMinHeatSetpointLimit v) = Some (plan_min_heat_limit cfg s v)
+planned cfg s (WriteMaxHeatSetpointLimit v) = Some (plan_max_heat_limit cfg s v)
+planned cfg s (WriteMinCoolSetpointLimit v) = Some (plan_min_cool_limit cfg s v)
+planned cfg s (WriteMaxCoolSetpointLimit v) = Some (plan_max_cool_limit cfg s v)
+planned cfg s (WriteSystemMode v) = Some (plan_system_mode cfg s v)
+planned cfg s (SetControlSequenceOfOperation v) = None
+planned cfg s (RaiseLowerSetpoint mode amount) = Some (plan_raise_lower cfg s mode amount)
+planned cfg s ArmClock = None
+planned cfg s (OutOfBand m) = None
+planned cfg s SeedEvents = None
+planned cfg s Sweep = None
+planned cfg s Timer = None
+planned cfg s Deadline = None
+planned cfg s FactoryReset = None
 planned cfg s (Hour h) = plan_hour mill_week cfg s h
 
 -- the settings with the limit or the mode in them
@@ -218,7 +215,7 @@ moved cfg d l r p =
       order = order_of u;
       notices = (l ++ move_notices cfg s t u) ++ relay_notices cfg d;
       events = [];
-      deadline = Never;
+      deadline = None;
     }
 
 -- an accepted plan: the limit or the mode is stored, then the setpoints
@@ -264,25 +261,25 @@ RaiseLowerCarried =
     (cfg : Config) (r : Controller) (d : Readings) (mode : ℕ) (amount : Tenths) → raise_lower_setpoint cfg r d mode amount ≡ carried_out cfg d r (plan_raise_lower cfg r.attrs.settings mode amount)
 
 -- An hour of any week is its plan carried out, or changes nothing
-abbrev pub DoneAsPlanned : Config → Readings → Controller → Planned → Outcome → Type 0
-DoneAsPlanned cfg d r NoWrite o = o ≡ quiet 0 r
-DoneAsPlanned cfg d r (Write p) o = o ≡ carried_out cfg d r p
+abbrev pub DoneAsPlanned : Config → Readings → Controller → Option Plan → Outcome → Type 0
+DoneAsPlanned cfg d r None o = o ≡ quiet 0 r
+DoneAsPlanned cfg d r (Some p) o = o ≡ carried_out cfg d r p
 
 abbrev pub HourCarried : Type 0
 HourCarried = (w : Week) (cfg : Config) (r : Controller) (d : Readings) (h : ℕ) → DoneAsPlanned cfg d r (plan_hour w cfg r.attrs.settings h) (hour w cfg r d h)
 
 -- So a call that is planned is its plan carried out.
 abbrev pub PlannedCarried : Type 0
-PlannedCarried = (cfg : Config) (r : Controller) (d : Readings) (k : Call) (p : Plan) → planned cfg r.attrs.settings k ≡ Write p → step_sound cfg r d k ≡ carried_out cfg d r p
+PlannedCarried = (cfg : Config) (r : Controller) (d : Readings) (k : Call) (p : Plan) → planned cfg r.attrs.settings k ≡ Some p → step_sound cfg r d k ≡ carried_out cfg d r p
 
 -- And what the call removes stands in its plan. A call that is not planned is done, or removes nothing.
 abbrev pub PlannedRemoved : Type 0
 PlannedRemoved =
-    (cfg : Config) (r : Controller) (d : Readings) (k : Call) (p : Plan) → sound cfg r ≡ true → planned cfg r.attrs.settings k ≡ Write p → removed cfg r d k ≡ plan_removed p
+    (cfg : Config) (r : Controller) (d : Readings) (k : Call) (p : Plan) → sound cfg r ≡ true → planned cfg r.attrs.settings k ≡ Some p → removed cfg r d k ≡ plan_removed p
 
 abbrev pub UnplannedRemoved : Type 0
 UnplannedRemoved =
-    (cfg : Config) (r : Controller) (d : Readings) (k : Call) → sound cfg r ≡ true → planned cfg r.attrs.settings k ≡ NoWrite → removed cfg r d k ≡ removed_when_done cfg r.attrs k
+    (cfg : Config) (r : Controller) (d : Readings) (k : Call) → sound cfg r ≡ true → planned cfg r.attrs.settings k ≡ None → removed cfg r d k ≡ removed_when_done cfg r.attrs k
 
 -- C-12: the gap push cuts nothing, whichever write makes one, since what it asks lies within the other side's limits in force. t has the limit and the targets
 -- in it: the other side gives way to a single one, heating to both
@@ -297,4 +294,4 @@ PushCutsNothing cfg t Both = HeatingPushCutsNothing cfg t t.cooling
 
 abbrev pub GapPushCutsNothing : Type 0
 GapPushCutsNothing =
-    (cfg : Config) (r : Controller) (k : Call) (p : Plan) → sound cfg r ≡ true → planned cfg r.attrs.settings k ≡ Write p → PushCutsNothing cfg (pushed_from r.attrs.settings p) p.sides
+    (cfg : Config) (r : Controller) (k : Call) (p : Plan) → sound cfg r ≡ true → planned cfg r.attrs.settings k ≡ Some p → PushCutsNothing cfg (pushed_from r.attrs.settings p) p.sides

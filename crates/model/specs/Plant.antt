@@ -1,5 +1,5 @@
 -- Document 01, One plant, ten calls: the plant, the calls, and the table of call, answer, heating, cooling; then the five marked cases.
-use Rattle.std.specs.Prelude.{Bool, true, false, List, [], ◌∷◌, ℕ, ◌+◌, ℤ, pos, negsuc}
+use Rattle.std.specs.Prelude.{Bool, true, false, List, [], ◌∷◌, ℕ, ◌+◌, ℤ, pos, negsuc, None, Some}
 use Rattle.units.specs.Units.{hundredths}
 use Rattle.units.specs.declared.Hundredths.{Hundredths}
 use Rattle.model.specs.Answers.{Outcome}
@@ -7,9 +7,6 @@ use Rattle.model.specs.Temperature.{significant, event_due}
 use Rattle.model.specs.Step.{step}
 use Rattle.records.specs.declared.Config.{Config}
 use Rattle.records.specs.declared.Settings.{Settings}
-use Rattle.records.specs.declared.Temperature.TheVariants.{NoReading, Reading}
-use Rattle.records.specs.declared.Second.TheVariants.{NoSecond}
-use Rattle.records.specs.declared.Moment.TheVariants.{Ms}
 use Rattle.records.specs.declared.Readings.{Readings}
 use Rattle.records.specs.declared.Call.{Call}
 use Rattle.records.specs.declared.Call.TheVariants.{WriteOccupiedHeatingSetpoint, WriteOccupiedCoolingSetpoint, WriteMaxCoolSetpointLimit, RaiseLowerSetpoint, OutOfBand}
@@ -41,7 +38,7 @@ plant = record {
 }
 
 abbrev pub no_readings : Readings
-no_readings = record { relaysbefore = 0; relaysafter = 0; temperature = NoReading; hook = NoSecond; node = NoSecond; clock = 0 }
+no_readings = record { relaysbefore = 0; relaysafter = 0; temperature = None; hook = None; node = None; clock = 0 }
 
 abbrev pub ten_calls : List Call
 ten_calls =
@@ -81,11 +78,11 @@ ten_lines =
 -- marked: difference 49 no, 50 yes; both null no; 59,999 ms no, 60,000 yes
 abbrev pub marked : List Bool
 marked =
-    significant (Reading (at 2000)) (Reading (at 2049)) (at 50) ∷
-    significant (Reading (at 2000)) (Reading (at 2050)) (at 50) ∷
-    significant NoReading NoReading (at 50) ∷
-    event_due (Reading (at 2000)) (Reading (at 2050)) (at 50) (Ms 1000) 60999 ∷
-    event_due (Reading (at 2000)) (Reading (at 2050)) (at 50) (Ms 1000) 61000 ∷ []
+    significant (Some (at 2000)) (Some (at 2049)) (at 50) ∷
+    significant (Some (at 2000)) (Some (at 2050)) (at 50) ∷
+    significant None None (at 50) ∷
+    event_due (Some (at 2000)) (Some (at 2050)) (at 50) (Some 1000) 60999 ∷
+    event_due (Some (at 2000)) (Some (at 2050)) (at 50) (Some 1000) 61000 ∷ []
 
 abbrev pub marked_answers : List Bool
 marked_answers = false ∷ true ∷ false ∷ false ∷ true ∷ []

@@ -1,5 +1,5 @@
 -- Document 01, Repair: each step by itself, on the settings with their dirty mark.
-use Rattle.std.specs.Prelude.{◌&&◌, cond, []}
+use Rattle.std.specs.Prelude.{◌&&◌, cond, [], None}
 use Rattle.units.specs.Units.{widened, plus, minus, greater, lesser, clamped}
 use Rattle.records.specs.Records.{with_attrs, set_heating, set_cooling, set_min_heat, set_max_heat, set_min_cool, set_max_cool, set_mode}
 use Rattle.model.specs.Answers.{Outcome}
@@ -10,7 +10,6 @@ use Rattle.model.specs.Limits.{clamp_heat_setpoint, clamp_cool_setpoint}
 use Rattle.model.specs.Modes.{is_supported_system_mode}
 use Rattle.records.specs.declared.Config.{Config}
 use Rattle.records.specs.declared.Attrs.{Attrs}
-use Rattle.records.specs.declared.Moment.TheVariants.{Never}
 use Rattle.records.specs.declared.Controller.{Controller}
 
 -- each served minimum to ABS
@@ -81,5 +80,5 @@ repaired_record cfg r a = record {
   order = order_of (repaired cfg a).settings;
   notices = [];
   events = [];
-  deadline = Never;
+  deadline = None;
 }

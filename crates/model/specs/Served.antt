@@ -1,13 +1,13 @@
 -- What a configuration lists: features, attributes, events, commands. The definitions write the cluster's codes as document 01 does; the code has
--- them as constants of crate records, and comments name them so.
+-- them as enums and constants of crate records, and comments name them so.
 -- feature: HEATING 0x001, COOLING 0x002, AUTO_MODE 0x020, LOCAL_TEMPERATURE_NOT_EXPOSED 0x040, EVENTS 0x200
--- attribute_id: LOCAL_TEMPERATURE 0x00, ABS_MIN_HEAT_SETPOINT_LIMIT 0x03, ABS_MAX_HEAT_SETPOINT_LIMIT 0x04, ABS_MIN_COOL_SETPOINT_LIMIT 0x05,
--- ABS_MAX_COOL_SETPOINT_LIMIT 0x06, OCCUPIED_COOLING_SETPOINT 0x11, OCCUPIED_HEATING_SETPOINT 0x12, MIN_HEAT_SETPOINT_LIMIT 0x15,
--- MAX_HEAT_SETPOINT_LIMIT 0x16, MIN_COOL_SETPOINT_LIMIT 0x17, MAX_COOL_SETPOINT_LIMIT 0x18, MIN_SETPOINT_DEAD_BAND 0x19,
--- CONTROL_SEQUENCE_OF_OPERATION 0x1B, SYSTEM_MODE 0x1C, THERMOSTAT_RUNNING_MODE 0x1E, THERMOSTAT_RUNNING_STATE 0x29,
--- SETPOINT_CHANGE_SOURCE 0x30, SETPOINT_CHANGE_AMOUNT 0x31, SETPOINT_CHANGE_SOURCE_TIMESTAMP 0x32
--- event_id: SYSTEM_MODE_CHANGE 0, LOCAL_TEMPERATURE_CHANGE 1, OCCUPANCY_CHANGE 2, SETPOINT_CHANGE 3, RUNNING_STATE_CHANGE 4,
--- RUNNING_MODE_CHANGE 5, ACTIVE_SCHEDULE_CHANGE 6, ACTIVE_PRESET_CHANGE 7; command_id: SETPOINT_RAISE_LOWER 0
+-- AttributeId: LocalTemperature 0x00, AbsMinHeatSetpointLimit 0x03, AbsMaxHeatSetpointLimit 0x04, AbsMinCoolSetpointLimit 0x05,
+-- AbsMaxCoolSetpointLimit 0x06, OccupiedCoolingSetpoint 0x11, OccupiedHeatingSetpoint 0x12, MinHeatSetpointLimit 0x15,
+-- MaxHeatSetpointLimit 0x16, MinCoolSetpointLimit 0x17, MaxCoolSetpointLimit 0x18, MinSetpointDeadBand 0x19,
+-- ControlSequenceOfOperation 0x1B, SystemMode 0x1C, ThermostatRunningMode 0x1E, ThermostatRunningState 0x29,
+-- SetpointChangeSource 0x30, SetpointChangeAmount 0x31, SetpointChangeSourceTimestamp 0x32
+-- EventId: SystemModeChange 0, LocalTemperatureChange 1, OccupancyChange 2, SetpointChange 3, RunningStateChange 4,
+-- RunningModeChange 5, ActiveScheduleChange 6, ActivePresetChange 7; CommandId: SetpointRaiseLower 0
 use Rattle.std.specs.Prelude.{Bool, not, ◌&&◌, ◌||◌, List, [], ◌∷◌, ℕ, ◌/◌, ◌%◌, ◌^◌, eqb}
 use Rattle.std.specs.Int.Bits.{bit_and}
 use Rattle.model.specs.Answers.{only_if}

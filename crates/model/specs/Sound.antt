@@ -1,5 +1,5 @@
--- Document 01, row 28 UNSOUND_RECORD: what every record has that an opening or a call leaves.
-use Rattle.std.specs.Prelude.{Bool, true, not, ◌&&◌, ◌||◌, ℕ, leb}
+-- Document 01, row 28 UnsoundRecord: what every record has that an opening or a call leaves.
+use Rattle.std.specs.Prelude.{Bool, true, not, ◌&&◌, ◌||◌, ℕ, leb, Option, None, Some}
 use Rattle.units.specs.Units.{minus, above, within}
 use Rattle.model.specs.Refusals.{Row, row}
 use Rattle.model.specs.Served.{heats, cools, auto, has_heat_limits, has_cool_limits}
@@ -9,8 +9,6 @@ use Rattle.model.specs.Modes.{is_supported_system_mode}
 use Rattle.model.specs.Validation.{accepted}
 use Rattle.records.specs.declared.Config.{Config}
 use Rattle.records.specs.declared.Settings.{Settings}
-use Rattle.records.specs.declared.Moment.{Moment}
-use Rattle.records.specs.declared.Moment.TheVariants.{Never, Ms}
 use Rattle.records.specs.declared.Controller.{Controller}
 
 -- the last clock to which 60,000 ms can still be added in 64 bits
@@ -43,9 +41,9 @@ sound_settings cfg s =
     ((sound_heating cfg s && sound_cooling cfg s) && is_supported_system_mode cfg s.mode)
 
 -- a last event not later than row 27 allows
-abbrev pub sound_last : Moment → Bool
-sound_last Never = true
-sound_last (Ms t) = leb t last_clock
+abbrev pub sound_last : Option ℕ → Bool
+sound_last None = true
+sound_last (Some t) = leb t last_clock
 
 unfoldable pub sound : Config → Controller → Bool
 sound cfg r = accepted cfg && (sound_settings cfg r.attrs.settings && sound_last r.events.last)

@@ -1,5 +1,6 @@
 -- Document 01, Sweep and timer; and the fixed notice table of its Messages.
-use Rattle.std.specs.Prelude.{Bool, true, false, not, ◌&&◌, ◌||◌, cond, List, [], ◌∷◌, ◌++◌, ℕ, ◌+◌, eqb, ltb}
+use Rattle.records.specs.declared.Setpoints.{Setpoints}
+use Rattle.std.specs.Prelude.{Bool, true, false, not, ◌&&◌, ◌||◌, cond, List, [], ◌∷◌, ◌++◌, ℕ, ◌+◌, eqb, ltb, Option, None, Some}
 use Rattle.units.specs.Units.{equal}
 use Rattle.units.specs.declared.Hundredths.{Hundredths}
 use Rattle.records.specs.Records.{current_snapshot, first_snapshot, with_pending, with_events, with_change, changed_to}
@@ -13,24 +14,15 @@ use Rattle.model.specs.LocalChange.{local_change}
 use Rattle.model.specs.Sound.{last_clock}
 use Rattle.model.specs.Writes.{source_notices}
 use Rattle.records.specs.declared.Config.{Config}
-use Rattle.records.specs.declared.Temperature.{Temperature}
-use Rattle.records.specs.declared.Temperature.TheVariants.{NoReading, Reading}
-use Rattle.records.specs.declared.Moment.{Moment}
-use Rattle.records.specs.declared.Moment.TheVariants.{Never, Ms}
 use Rattle.records.specs.declared.Snapshot.{Snapshot}
-use Rattle.records.specs.declared.Shadow.{Shadow}
-use Rattle.records.specs.declared.Shadow.TheVariants.{Unseeded, Seeded}
 use Rattle.records.specs.declared.EventState.{EventState}
-use Rattle.records.specs.declared.Attributed.{Attributed}
-use Rattle.records.specs.declared.Attributed.TheVariants.{Unclaimed, Claimed}
-use Rattle.records.specs.declared.Order.TheVariants.{NoOrder}
 use Rattle.records.specs.declared.Event.{Event}
 use Rattle.records.specs.declared.Event.TheVariants.{SystemModeChange, LocalTemperatureChange, SetpointChange, RunningStateChange, RunningModeChange}
 use Rattle.records.specs.declared.NoticeRow.{NoticeRow}
 use Rattle.records.specs.declared.Controller.{Controller}
 use Rattle.records.specs.declared.Readings.{Readings}
 
--- the fixed notice table: bit (pending_bit) and attribute code (attribute_id), ten rows
+-- the fixed notice table: bit (`PendingBit`) and attribute code (`AttributeId`), ten rows
 abbrev pub notice_row : ℕ → ℕ → NoticeRow
 notice_row b c = record { bit = b; code = c }
 
@@ -57,26 +49,26 @@ unfoldable pub started : Config → Readings → Controller → Controller
 started cfg d r = claim_setpoints cfg (first_snapshot r (snapshot_of cfg d r))
 
 -- a local change is Manual, its amount C-20's; then the pair is claimed, with the three notices
-abbrev pub local_recorded : Config → Readings → Controller → Hundredths → Hundredths → Hundredths → Hundredths → Stage
-local_recorded cfg d r oldh oldc h c = record {
-  rec = with_change r (with_attributed (recorded r.change manual (local_change cfg h c oldh oldc) d.hook) (Claimed h c));
+abbrev pub local_recorded : Config → Readings → Controller → Setpoints → Setpoints → Stage
+local_recorded cfg d r old new = record {
+  rec = with_change r (with_attributed (recorded r.change manual (local_change cfg old new) d.hook) (Some new));
   notices = source_notices cfg;
 }
 
-abbrev pub attributed_to : Config → Readings → Controller → Attributed → Attributed → Stage
-attributed_to cfg d r old Unclaimed = unchanged r
-attributed_to cfg d r Unclaimed (Claimed h c) = unchanged (with_change r (with_attributed r.change (Claimed h c)))
-attributed_to cfg d r (Claimed oldh oldc) (Claimed h c) = cond (changed_to oldh h || changed_to oldc c) (local_recorded cfg d r oldh oldc h c) (unchanged r)
+abbrev pub attributed_to : Config → Readings → Controller → Option Setpoints → Option Setpoints → Stage
+attributed_to cfg d r old None = unchanged r
+attributed_to cfg d r None (Some new) = unchanged (with_change r (with_attributed r.change (Some new)))
+attributed_to cfg d r (Some old) (Some new) = cond (changed_to old.heating new.heating || changed_to old.cooling new.cooling) (local_recorded cfg d r old new) (unchanged r)
 
 -- with no attributed pair yet it only claims
 unfoldable pub attribute_local_setpoint_change : Config → Readings → Controller → Stage
 attribute_local_setpoint_change cfg d r = attributed_to cfg d r r.change.attributed (served_setpoints cfg r.attrs.settings)
 
-abbrev pub same_temperature : Temperature → Temperature → Bool
-same_temperature NoReading NoReading = true
-same_temperature NoReading (Reading b) = false
-same_temperature (Reading a) NoReading = false
-same_temperature (Reading a) (Reading b) = equal a b
+abbrev pub same_temperature : Option Hundredths → Option Hundredths → Bool
+same_temperature None None = true
+same_temperature None (Some b) = false
+same_temperature (Some a) None = false
+same_temperature (Some a) (Some b) = equal a b
 
 -- all equal: no events
 unfoldable pub same_snapshot : Snapshot → Snapshot → Bool
@@ -88,7 +80,7 @@ same_snapshot a b =
 unfoldable pub mode_emitted : Config → Snapshot → Snapshot → Bool
 mode_emitted cfg old new = emits cfg 0 && not (eqb old.mode new.mode)
 
-unfoldable pub temperature_emitted : Config → Snapshot → Snapshot → Moment → ℕ → Bool
+unfoldable pub temperature_emitted : Config → Snapshot → Snapshot → Option ℕ → ℕ → Bool
 temperature_emitted cfg old new last now = emits cfg 1 && event_due old.temperature new.temperature cfg.delta last now
 
 unfoldable pub cooling_emitted : Config → Snapshot → Snapshot → Bool
@@ -104,7 +96,7 @@ unfoldable pub running_mode_emitted : Config → Snapshot → Snapshot → Bool
 running_mode_emitted cfg old new = emits cfg 5 && not (eqb old.runningmode new.runningmode)
 
 -- order: mode, temperature, cooling setpoint, heating setpoint, relays, running mode
-unfoldable pub events_of : Config → Snapshot → Snapshot → Moment → ℕ → List Event
+unfoldable pub events_of : Config → Snapshot → Snapshot → Option ℕ → ℕ → List Event
 events_of cfg old new last now =
     only_if (mode_emitted cfg old new) (SystemModeChange old.mode new.mode ∷ []) ++
     (only_if (temperature_emitted cfg old new last now) (LocalTemperatureChange new.temperature ∷ []) ++
@@ -114,9 +106,9 @@ events_of cfg old new last now =
     only_if (running_mode_emitted cfg old new) (RunningModeChange old.runningmode new.runningmode ∷ [])))))
 
 -- only what was emitted moves in the snapshot, except that both setpoints move whenever SetpointChange is served
-unfoldable pub committed : Config → Snapshot → Snapshot → Moment → ℕ → EventState
+unfoldable pub committed : Config → Snapshot → Snapshot → Option ℕ → ℕ → EventState
 committed cfg old new last now = record {
-  shadow = Seeded (record {
+  shadow = Some (record {
     temperature = cond (temperature_emitted cfg old new last now) new.temperature old.temperature;
     heating = cond (emits cfg 3) new.heating old.heating;
     cooling = cond (emits cfg 3) new.cooling old.cooling;
@@ -124,7 +116,7 @@ committed cfg old new last now = record {
     relays = cond (relays_emitted cfg old new) new.relays old.relays;
     runningmode = cond (running_mode_emitted cfg old new) new.runningmode old.runningmode;
   });
-  last = cond (temperature_emitted cfg old new last now) (Ms now) last;
+  last = cond (temperature_emitted cfg old new last now) (Some now) last;
 }
 
 -- what taking events leaves
@@ -133,9 +125,9 @@ pub record Taken : Type 0 where
   pub events : List Event
 
 -- no snapshot yet: it starts, no events
-abbrev pub taken_from : Config → Readings → Controller → Shadow → Taken
-taken_from cfg d r Unseeded = record { rec = started cfg d r; events = [] }
-taken_from cfg d r (Seeded old) =
+abbrev pub taken_from : Config → Readings → Controller → Option Snapshot → Taken
+taken_from cfg d r None = record { rec = started cfg d r; events = [] }
+taken_from cfg d r (Some old) =
     cond (same_snapshot old (snapshot_of cfg d r)) (record { rec = r; events = [] })
     (record {
       rec = with_events r (committed cfg old (snapshot_of cfg d r) r.events.last d.clock);
@@ -145,7 +137,7 @@ taken_from cfg d r (Seeded old) =
 unfoldable pub take_events : Config → Readings → Controller → Taken
 take_events cfg d r = taken_from cfg d r r.events.shadow
 
--- 27 CLOCK_TOO_LATE: a clock to which 60,000 ms cannot be added
+-- 27 ClockTooLate: a clock to which 60,000 ms cannot be added
 abbrev pub late : Readings → Row
 late d = row 27 (ltb last_clock d.clock)
 
@@ -153,16 +145,16 @@ late d = row 27 (ltb last_clock d.clock)
 unfoldable pub timer : Config → Controller → Readings → Outcome
 timer cfg r d =
     unless (late d ∷ []) r
-    (record { number = 0; rec = (take_events cfg d r).rec; order = NoOrder; notices = []; events = (take_events cfg d r).events; deadline = Never })
+    (record { number = 0; rec = (take_events cfg d r).rec; order = None; notices = []; events = (take_events cfg d r).events; deadline = None })
 
 -- with bit 9 a sweep arms, attributes a local change and takes events
 unfoldable pub sweep_events : Config → Readings → List ℕ → Controller → Outcome
 sweep_events cfg d notices r =
     let s = attribute_local_setpoint_change cfg d (armed_clock cfg d r) in
-    record { number = 0; rec = (take_events cfg d s.rec).rec; order = NoOrder; notices = notices ++ s.notices; events = (take_events cfg d s.rec).events; deadline = Never }
+    record { number = 0; rec = (take_events cfg d s.rec).rec; order = None; notices = notices ++ s.notices; events = (take_events cfg d s.rec).events; deadline = None }
 
 abbrev pub notify : ℕ → Controller → List ℕ → Outcome
-notify n r notices = record { number = n; rec = r; order = NoOrder; notices = notices; events = []; deadline = Never }
+notify n r notices = record { number = n; rec = r; order = None; notices = notices; events = []; deadline = None }
 
 -- a sweep with nothing pending changes nothing; else it empties pending and gives its notices
 unfoldable pub swept : Config → Readings → Controller → Outcome
@@ -179,17 +171,17 @@ unfoldable pub seed_events : Config → Controller → Readings → Outcome
 seed_events cfg r d = quiet 0 (started cfg d r)
 
 -- last + 60,000 ms while a significant change waits; none without a snapshot, a last event or the served event
-abbrev pub deadline_after : Bool → Moment → Moment
-deadline_after true (Ms last) = Ms (last + 60000)
-deadline_after true Never = Never
-deadline_after false last = Never
+abbrev pub deadline_after : Bool → Option ℕ → Option ℕ
+deadline_after true (Some last) = Some (last + 60000)
+deadline_after true None = None
+deadline_after false last = None
 
-abbrev pub waiting : Config → Readings → Shadow → Bool
-waiting cfg d Unseeded = false
-waiting cfg d (Seeded old) = emits cfg 1 && significant old.temperature (reported_temperature cfg d.temperature) cfg.delta
+abbrev pub waiting : Config → Readings → Option Snapshot → Bool
+waiting cfg d None = false
+waiting cfg d (Some old) = emits cfg 1 && significant old.temperature (reported_temperature cfg d.temperature) cfg.delta
 
-unfoldable pub deferred_deadline : Config → Readings → Controller → Moment
+unfoldable pub deferred_deadline : Config → Readings → Controller → Option ℕ
 deferred_deadline cfg d r = deadline_after (waiting cfg d r.events.shadow) r.events.last
 
 unfoldable pub deadline : Config → Controller → Readings → Outcome
-deadline cfg r d = record { number = 0; rec = r; order = NoOrder; notices = []; events = []; deadline = deferred_deadline cfg d r }
+deadline cfg r d = record { number = 0; rec = r; order = None; notices = []; events = []; deadline = deferred_deadline cfg d r }

@@ -14,7 +14,7 @@ abbrev pub differ : Bool → Bool → Bool
 differ true b = not b
 differ false b = b
 
--- 1 REVISION is not 11, 2 UNKNOWN_FEATURE beyond HEAT, COOL, AUTO, LTNE, TEVT, 3 NO_SIDE: neither HEAT nor COOL, 4 AUTO_WITHOUT_BOTH_SIDES
+-- 1 Revision is not 11, 2 UnknownFeature beyond HEAT, COOL, AUTO, LTNE, TEVT, 3 NoSide: neither HEAT nor COOL, 4 AutoWithoutBothSides
 unfoldable pub feature_rows : Config → List Row
 feature_rows cfg =
     row 1 (not (eqb cfg.revision 11)) ∷
@@ -22,7 +22,7 @@ feature_rows cfg =
     row 3 (not (heats cfg || cools cfg)) ∷
     row 4 (auto cfg && not (heats cfg && cools cfg)) ∷ []
 
--- 5 ATTRIBUTE_MISSING, 6 ATTRIBUTE_WITHOUT_FEATURE
+-- 5 AttributeMissing, 6 AttributeWithoutFeature
 abbrev pub attribute_row : Config → ℕ → Bool → List Row
 attribute_row cfg code wanted = row 5 (wanted && not (serves cfg code)) ∷ row 6 (not wanted && serves cfg code) ∷ []
 
@@ -36,8 +36,8 @@ attribute_rows cfg =
     (attribute_row cfg 0x11 (cools cfg) ++
     attribute_row cfg 0x19 (auto cfg)))))
 
--- 7 LIMITS_INCOMPLETE: some but not all four of a side, 8 LIMITS_WITHOUT_SIDE: without HEAT or COOL, 9 LIMITS_OF_ONE_SIDE with AUTO,
--- 10 RUNNING_MODE_WITHOUT_AUTO
+-- 7 LimitsIncomplete: some but not all four of a side, 8 LimitsWithoutSide: without HEAT or COOL, 9 LimitsOfOneSide with AUTO,
+-- 10 RunningModeWithoutAuto
 unfoldable pub limit_rows : Config → List Row
 limit_rows cfg =
     row 7 ((some_heat_limit cfg && not (has_heat_limits cfg)) || (some_cool_limit cfg && not (has_cool_limits cfg))) ∷
@@ -45,14 +45,14 @@ limit_rows cfg =
     row 9 (auto cfg && differ (has_heat_limits cfg) (has_cool_limits cfg)) ∷
     row 10 (serves cfg 0x1E && not (auto cfg)) ∷ []
 
--- 12 EVENT_WITHOUT_FEATURE: served without TEVT, 13 EVENT_NOT_APPLICABLE: served where it does not apply, 14 EVENT_MISSING: TEVT and not served where it applies
+-- 12 EventWithoutFeature: served without TEVT, 13 EventNotApplicable: served where it does not apply, 14 EventMissing: TEVT and not served where it applies
 abbrev pub event_row : Config → ℕ → Bool → List Row
 event_row cfg code applies =
     row 12 (emits cfg code && not (supports_events cfg)) ∷
     row 13 (emits cfg code && not applies) ∷
     row 14 (supports_events cfg && (applies && not (emits cfg code))) ∷ []
 
--- 11 EVENT_UNKNOWN: Occupancy, ActiveSchedule or ActivePreset; then mode, temperature, setpoint, relays, running mode; 15 NEGATIVE_DELTA
+-- 11 EventUnknown: Occupancy, ActiveSchedule or ActivePreset; then mode, temperature, setpoint, relays, running mode; 15 NegativeDelta
 unfoldable pub event_rows : Config → List Row
 event_rows cfg =
     row 11 (emits cfg 2 || (emits cfg 6 || emits cfg 7)) ∷
@@ -63,7 +63,7 @@ event_rows cfg =
     (event_row cfg 5 (auto cfg) ++
     (row 15 (less cfg.delta zero_hundredths) ∷ []))))))
 
--- 16 NO_RAISE_LOWER, 17 HEAT_RANGE_EMPTY and 18 COOL_RANGE_EMPTY: ABS_MIN > ABS_MAX, 19 NEGATIVE_DEAD_BAND, 20 ABS_LIMITS_TOO_CLOSE, 21 SEQUENCE_MISMATCH
+-- 16 NoRaiseLower, 17 HeatRangeEmpty and 18 CoolRangeEmpty: ABS_MIN > ABS_MAX, 19 NegativeDeadBand, 20 AbsLimitsTooClose, 21 SequenceMismatch
 unfoldable pub number_rows : Config → List Row
 number_rows cfg =
     row 16 (not (listed cfg.commands 0)) ∷

@@ -30,7 +30,7 @@ hour_before h = cond (eqb h 0) last_hour (h - 1)
 unfoldable pub acts : Week → ℕ → Bool
 acts w h = changed_to (w (hour_before h)) (w h)
 
--- 32 HOUR_OUTSIDE_WEEK, then 24 without heating
+-- 32 HourOutsideWeek, then 24 without heating
 abbrev pub hour_rows : Config → ℕ → List Row
 hour_rows cfg h = row 32 (ltb last_hour h) ∷ unserved cfg 0x12 ∷ []
 

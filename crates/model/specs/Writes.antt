@@ -1,5 +1,5 @@
 -- Document 01, Writes: setpoints, limits, mode; and the plant order in which each ends. Raise/lower is RaiseLower's.
-use Rattle.std.specs.Prelude.{Bool, not, ◌&&◌, ◌||◌, cond, List, [], ◌∷◌, ◌++◌, ℕ, eqb}
+use Rattle.std.specs.Prelude.{Bool, not, ◌&&◌, ◌||◌, cond, List, [], ◌∷◌, ◌++◌, ℕ, eqb, None}
 use Rattle.units.specs.Units.{plus, minus, above, below, within, widened, saturated_difference}
 use Rattle.units.specs.declared.Hundredths.{Hundredths}
 use Rattle.records.specs.Records.{with_attrs, with_change, changed_to, set_heating, set_cooling, set_min_heat, set_max_heat, set_min_cool, set_max_cool, set_mode}
@@ -15,11 +15,10 @@ use Rattle.records.specs.declared.Config.{Config}
 use Rattle.records.specs.declared.Settings.{Settings}
 use Rattle.records.specs.declared.Attrs.{Attrs}
 use Rattle.records.specs.declared.SetpointChangeState.{SetpointChangeState}
-use Rattle.records.specs.declared.Moment.TheVariants.{Never}
 use Rattle.records.specs.declared.Controller.{Controller}
 use Rattle.records.specs.declared.Readings.{Readings}
 
--- THERMOSTAT_RUNNING_STATE and THERMOSTAT_RUNNING_MODE if the counted relays differ between the readings before and after
+-- ThermostatRunningState and ThermostatRunningMode if the counted relays differ between the readings before and after
 unfoldable pub relay_notices : Config → Readings → List ℕ
 relay_notices cfg d = only_if (not (eqb (running_state cfg d.relaysbefore) (running_state cfg d.relaysafter))) (noticed cfg 0x29 ++ noticed cfg 0x1E)
 
@@ -31,7 +30,7 @@ applied cfg d s = record {
   order = order_of s.rec.attrs.settings;
   notices = s.notices ++ relay_notices cfg d;
   events = [];
-  deadline = Never;
+  deadline = None;
 }
 
 -- the three notices of a recorded change: its source, amount and timestamp
@@ -78,7 +77,7 @@ store_cooling_setpoint cfg d source v r =
       notices = only_if moved (noticed cfg 0x11 ++ source_notices cfg) ++ only_if (changed_to s.heating other) (noticed cfg 0x12);
     }
 
--- 24 UNSERVED_ATTRIBUTE
+-- 24 UnservedAttribute
 abbrev pub unserved : Config → ℕ → Row
 unserved cfg code = row 24 (not (serves cfg code))
 
@@ -163,7 +162,7 @@ max_cool_rows cfg s v = limit_write_rows cfg 0x18 (max_cool_refused cfg s v)
 unfoldable pub write_max_cool_setpoint_limit : Config → Controller → Readings → Hundredths → Outcome
 write_max_cool_setpoint_limit cfg r d v = limit_write cfg r d (max_cool_rows cfg r.attrs.settings v) (limit_stored cfg r (set_max_cool r.attrs v) 0x18) (pull_cooling cfg d)
 
--- SYSTEM_MODE last, always
+-- SystemMode last, always
 abbrev pub then_noticed : Config → ℕ → Outcome → Outcome
 then_noticed cfg code o = record { number = o.number; rec = o.rec; order = o.order; notices = o.notices ++ noticed cfg code; events = o.events; deadline = o.deadline }
 
