@@ -1,43 +1,30 @@
-// model/specs/Answers and Orders: notices and events as an array and a length; the plant order, and the sweep it asks for.
+// model/specs/Answers and Orders: notices and events as lists in fixed memory; the plant order, and the sweep it asks for.
 #![tactic(auto)]
 
 ghost use Rattle.std.specs.Prelude.{◌≡◌};
-ghost use Rattle.model.specs.Answers.{only_if, push as pushed, push_all, emit as emitted, emit_all, answer, quiet};
+ghost use Rattle.records.specs.Refusals.{number};
+ghost use Rattle.model.specs.Answers.{only_if, push as pushed, push_all, emit as emitted, answer, quiet};
 ghost use Rattle.model.specs.Served.{noticed, emits_any};
 ghost use Rattle.model.specs.Orders.{order_of, ask_sweep};
 
 use records::{
-    Answer, Config, Controller, Event, EventSlot, Events, Moment, Notices, Order, Removed,
-    Settings, pending_mask,
+    Answer, Config, Controller, Event, Events, Notices, PlantOrder, Refusal, Removed, Settings,
+    pending_mask,
 };
 
-// A full array is left alone. No call gives more than it holds, so nothing is lost: law NothingLost of model.
+// A full list is left alone. No call gives more than it holds, so nothing is lost: law NothingLost of model.
 #[tactic(auto, unfolding(model::specs::Answers::push))]
 pub fn push(n: Notices, code: u16) -> Notices
     ensures { result ≡ pushed n code }
 {
-    let at = n.len;
-    if at < Notices::MOST {
-        let mut m = n;
-        m.codes[at] = code;
-        m.len = at + 1;
-        return m;
-    }
-    n
+    n.push(code)
 }
 
 #[tactic(auto, unfolding(model::specs::Answers::emit))]
 pub fn emit(es: Events, e: Event) -> Events
     ensures { result ≡ emitted es e }
 {
-    let at = es.len;
-    if at < Events::MOST {
-        let mut m = es;
-        m.slots[at] = EventSlot { event: e };
-        m.len = at + 1;
-        return m;
-    }
-    es
+    es.push(Some(e))
 }
 
 // A notice, if its attribute is served.
@@ -66,25 +53,33 @@ pub fn notify_if(cfg: Config, n: Notices, t: bool, code: u16) -> Notices
 pub fn quiet_answer(number: u8, r: Controller) -> Answer
     ensures { result ≡ answer (quiet number r) }
 {
-    let n = Notices::none();
-    let e = Events::none();
     Answer {
         number: number,
         rec: r,
-        order: Order::NoOrder,
-        notices: n,
-        events: e,
-        deadline: Moment::Never,
+        order: None,
+        notices: Notices::none(),
+        events: Events::none(),
+        deadline: None,
         removed: Removed::NOTHING,
     }
 }
 
-pub fn order_of(s: Settings) -> Order
+// The record is given back, and nothing else.
+pub fn refuse(refusal: Refusal, r: Controller) -> Answer
+    ensures { result ≡ answer (quiet (number refusal) r) }
+{
+    quiet_answer(refusal.into(), r)
+}
+
+// The definition's type: an answer may have none.
+pub fn order_of(s: Settings) -> Option<PlantOrder>
     ensures { result ≡ order_of s }
 {
-    let h = s.heating;
-    let c = s.cooling;
-    Order::Apply(s.mode, h, c)
+    Some(PlantOrder {
+        mode: s.mode,
+        heating: s.heating,
+        cooling: s.cooling,
+    })
 }
 
 #[tactic(auto, unfolding(model::specs::Served::emits_any))]
@@ -100,9 +95,10 @@ pub fn ask_sweep(cfg: Config, r: Controller) -> Controller
     ensures { result ≡ ask_sweep cfg r }
 {
     if emits_any(cfg) {
-        let mut q = r;
-        q.pending = r.pending | pending_mask::EVENT_SWEEP;
-        return q;
+        return Controller {
+            pending: r.pending | pending_mask::EVENT_SWEEP,
+            ..r
+        };
     }
     r
 }

@@ -1,34 +1,19 @@
 // model/specs/Attribution: recording, arming, and the claimed pair.
 #![tactic(auto)]
 
-ghost use Rattle.std.specs.Prelude.{◌≡◌, cond};
-ghost use Rattle.records.specs.Records.{zero_hundredths};
-ghost use Rattle.records.specs.declared.Second.TheVariants.{NoSecond};
-ghost use Rattle.model.specs.Attribution.{stamp as stamp_of, recorded, with_attributed, with_armed, armed_clock, served_setpoints, claim_setpoints};
+ghost use Rattle.std.specs.Prelude.{◌≡◌};
+ghost use Rattle.model.specs.Attribution.{stamp as stamp_of, recorded, with_attributed, armed_clock, served_setpoints, claim_setpoints};
 
 use records::{
-    Amount, Attributed, Config, Controller, Readings, Second, SetpointChangeState, Settings,
-    attribute_id,
+    AttributeId, Config, Controller, Readings, SetpointChangeState, Setpoints, Settings,
 };
 use units::Hundredths;
 
-fn second_or_zero(s: Second) -> u32
-    ensures { result ≡ stamp_of NoSecond s }
-{
-    match s {
-        Second::NoSecond => 0,
-        Second::At(t) => t,
-    }
-}
-
 // The hook's second, else the armed one, else 0.
-fn stamp(hook: Second, armed: Second) -> u32
+fn stamp(hook: Option<u32>, armed: Option<u32>) -> u32
     ensures { result ≡ stamp_of hook armed }
 {
-    match hook {
-        Second::NoSecond => second_or_zero(armed),
-        Second::At(t) => t,
-    }
+    hook.or(armed).unwrap_or(0)
 }
 
 // Recording always empties the armed clock.
@@ -37,93 +22,71 @@ pub fn record(
     c: SetpointChangeState,
     source: u8,
     amount: Hundredths,
-    hook: Second,
+    hook: Option<u32>,
 ) -> SetpointChangeState
     ensures { result ≡ recorded c source amount hook }
 {
-    let armed = c.armed;
-    let t = stamp(hook, armed);
-    let pair = c.attributed;
     SetpointChangeState {
         source: source,
-        amount: Amount::Moved(amount),
-        timestamp: t,
-        attributed: pair,
-        armed: Second::NoSecond,
+        amount: Some(amount),
+        timestamp: stamp(hook, c.armed),
+        armed: None,
+        ..c
     }
 }
 
-pub fn attribute(c: SetpointChangeState, claimed: Attributed) -> SetpointChangeState
+pub fn attribute(c: SetpointChangeState, claimed: Option<Setpoints>) -> SetpointChangeState
     ensures { result ≡ with_attributed c claimed }
 {
-    let amount = c.amount;
-    let armed = c.armed;
     SetpointChangeState {
-        source: c.source,
-        amount: amount,
-        timestamp: c.timestamp,
         attributed: claimed,
-        armed: armed,
+        ..c
     }
 }
 
-fn arm(c: SetpointChangeState, second: Second) -> SetpointChangeState
-    ensures { result ≡ with_armed c second }
-{
-    let amount = c.amount;
-    let pair = c.attributed;
-    SetpointChangeState {
-        source: c.source,
-        amount: amount,
-        timestamp: c.timestamp,
-        attributed: pair,
-        armed: second,
-    }
-}
-
-// It acts only if the timestamp attribute is served.
+// It acts only if the timestamp attribute is served. Configuration, readings and record stay apart, as in the
+// definitions: the record alone changes.
 #[tactic(auto, unfolding(model::specs::Attribution::armed_clock))]
 pub fn arm_clock(cfg: Config, d: Readings, r: Controller) -> Controller
     ensures { result ≡ armed_clock cfg d r }
 {
-    if served::serves(cfg, attribute_id::SETPOINT_CHANGE_SOURCE_TIMESTAMP) {
-        let change = r.change;
-        let node = d.node;
-        let a = arm(change, node);
-        let mut q = r;
-        q.change = a;
-        return q;
+    if served::serves(cfg, AttributeId::SetpointChangeSourceTimestamp as u16) {
+        return Controller {
+            change: SetpointChangeState {
+                armed: d.node,
+                ..r.change
+            },
+            ..r
+        };
     }
     r
 }
 
-fn side_or_zero(t: bool, v: Hundredths) -> Hundredths
-    ensures { result ≡ cond t v zero_hundredths }
-{
-    if t {
-        return v;
-    }
-    Hundredths::ZERO
-}
-
-// An unserved side counts 0.
+// An unserved side counts 0. The definition's type: a record may claim none.
 #[tactic(auto, unfolding(model::specs::Attribution::served_setpoints))]
-pub fn served_setpoints(cfg: Config, s: Settings) -> Attributed
+pub fn served_setpoints(cfg: Config, s: Settings) -> Option<Setpoints>
     ensures { result ≡ served_setpoints cfg s }
 {
-    let h = side_or_zero(served::heats(cfg), s.heating);
-    let c = side_or_zero(served::cools(cfg), s.cooling);
-    Attributed::Claimed(h, c)
+    Some(Setpoints {
+        heating: if served::heats(cfg) {
+            s.heating
+        } else {
+            Hundredths::ZERO
+        },
+        cooling: if served::cools(cfg) {
+            s.cooling
+        } else {
+            Hundredths::ZERO
+        },
+    })
 }
 
 #[tactic(auto, unfolding(model::specs::Attribution::claim_setpoints))]
 pub fn claim_setpoints(cfg: Config, r: Controller) -> Controller
     ensures { result ≡ claim_setpoints cfg r }
 {
-    let pair = served_setpoints(cfg, r.attrs.settings);
-    let c = r.change;
-    let a = attribute(c, pair);
-    let mut q = r;
-    q.change = a;
-    q
+    Controller {
+        change: attribute(r.change, served_setpoints(cfg, r.attrs.settings)),
+        ..r
+    }
 }

@@ -1,11 +1,11 @@
 // model/specs/Temperature: significance, the 60-second interval, LTNE.
 #![tactic(auto)]
 
-ghost use Rattle.std.specs.Prelude.{◌≡◌, ◌-◌};
+ghost use Rattle.std.specs.Prelude.{◌≡◌};
 ghost use Rattle.units.specs.Units.{apart};
 ghost use Rattle.model.specs.Temperature.{significant, interval_over, event_due, reported_temperature};
 
-use records::{Config, Controller, Moment, Temperature};
+use records::{Config, Controller};
 use units::Hundredths;
 
 // Whether two numbers differ by at least `d`.
@@ -13,72 +13,52 @@ use units::Hundredths;
 fn are_apart(a: Hundredths, b: Hundredths, d: Hundredths) -> bool
     ensures { result ≡ apart a b d }
 {
-    let x = units::sub(a, b);
-    let y = units::sub(b, a);
-    let u = units_ranges::max(x, y);
-    !units::is_above(d, u)
+    !units::is_above(d, units_ranges::max((a - b).wide, (b - a).wide))
 }
 
 pub fn local_temperature_change_significant(
-    previous: Temperature,
-    current: Temperature,
+    previous: Option<Hundredths>,
+    current: Option<Hundredths>,
     delta: Hundredths,
 ) -> bool
     ensures { result ≡ significant previous current delta }
 {
-    match previous {
-        Temperature::NoReading => match current {
-            Temperature::NoReading => false,
-            Temperature::Reading(_) => true,
-        },
-        Temperature::Reading(a) => match current {
-            Temperature::NoReading => true,
-            Temperature::Reading(b) => are_apart(a, b, delta),
-        },
+    match (previous, current) {
+        (None, None) => false,
+        (Some(a), Some(b)) => are_apart(a, b, delta),
+        _ => true,
     }
 }
 
 // A clock gone back counts as 0 ms.
-fn elapsed(last: u64, now: u64) -> u64
-    ensures { result ≡ now - last }
-{
-    if last < now {
-        return now - last;
-    }
-    0
-}
-
-fn is_interval_over(last: Moment, now: u64) -> bool
+fn is_interval_over(last: Option<u64>, now: u64) -> bool
     ensures { result ≡ interval_over last now }
 {
     match last {
-        Moment::Never => true,
-        Moment::Ms(t) => Controller::EVENT_INTERVAL <= elapsed(t, now),
+        None => true,
+        Some(t) => Controller::EVENT_INTERVAL <= now.saturating_sub(t),
     }
 }
 
 #[tactic(auto, unfolding(model::specs::Temperature::event_due))]
 pub fn local_temperature_event_due(
-    previous: Temperature,
-    current: Temperature,
+    previous: Option<Hundredths>,
+    current: Option<Hundredths>,
     delta: Hundredths,
-    last: Moment,
+    last: Option<u64>,
     now: u64,
 ) -> bool
     ensures { result ≡ event_due previous current delta last now }
 {
-    if local_temperature_change_significant(previous, current, delta) {
-        return is_interval_over(last, now);
-    }
-    false
+    local_temperature_change_significant(previous, current, delta) && is_interval_over(last, now)
 }
 
 #[tactic(auto, unfolding(model::specs::Temperature::reported_temperature))]
-pub fn reported_local_temperature(cfg: Config, reading: Temperature) -> Temperature
+pub fn reported_local_temperature(cfg: Config, reading: Option<Hundredths>) -> Option<Hundredths>
     ensures { result ≡ reported_temperature cfg reading }
 {
     if served::local_temperature_not_exposed(cfg) {
-        return Temperature::NoReading;
+        return None;
     }
     reading
 }
