@@ -6,21 +6,22 @@ ghost use Rattle.model.specs.Answers.{answer_with};
 ghost use Rattle.model.specs.Removed.{opening_removed};
 ghost use Rattle.model.specs.Step.{opened};
 
-use records::{Answer, Attrs, Config, Controller, Settings, answer_number};
+use records::{Answer, Attrs, Config, Controller, Settings};
 
 // Validation, then repair of the given settings in a record otherwise blank.
-#[tactic(auto, unfolding(model::specs::Step::opened, model::specs::Removed::opening_removed, model::specs::Validation::accepted))]
+#[tactic(auto, unfolding(model::specs::Step::opened, model::specs::Removed::opening_removed, model::specs::Validation::accepted, records::specs::Refusals::number_or, records::specs::Refusals::number))]
 pub fn open(cfg: Config, settings: Settings) -> Answer
     ensures { result ≡ answer_with (opened cfg settings) (opening_removed cfg settings) }
 {
-    let n = validation::validate(cfg);
     let blank = Controller::blank();
-    if n != answer_number::DONE {
-        return answers::quiet_answer(n, blank);
+    match validation::validate(cfg) {
+        Err(refusal) => answers::refuse(refusal, blank),
+        Ok(()) => {
+            let attrs = Attrs {
+                settings: settings,
+                dirty: false,
+            };
+            repair_records::repair_record(cfg, blank, attrs)
+        }
     }
-    let a = Attrs {
-        settings: settings,
-        dirty: false,
-    };
-    repair_records::repair_record(cfg, blank, a)
 }

@@ -1,20 +1,24 @@
 -- Rows of flags, as tests.
 use mathlib.Core.Path.{◌≡◌, refl}
-use mathlib.Core.Bool.{Bool, true, false, not, ◌&&◌, ◌||◌, beq}
-use mathlib.Core.List.{List, [], ◌∷◌}
-use Rattle.model.specs.Refusals.{Row, row, none_fails}
-use Rattle.model.specs.Validation.{differ}
-use Rattle.model.proofs.Accepted.{none_append}
+use mathlib.Core.Bool.{Bool, true, false, not, ◌&&◌, ◌||◌, beq, and_assoc}
+use mathlib.Core.List.{[], ◌∷◌}
+use Rattle.model.specs.Refusals.{row, none_fails}
+use Rattle.units.specs.Units.{less}
+use Rattle.records.specs.Records.{zero_hundredths}
+use Rattle.model.specs.Served.{heats, cools, auto, local_temperature_not_exposed, emits}
+use Rattle.model.specs.Validation.{attribute_row, attribute_rows, event_row, event_rows}
+use Rattle.records.specs.declared.Config.{Config}
+use Rattle.model.proofs.Accepted.{none_append, none_cons, none_last}
 
-pub unequal : (a b : Bool) → differ a b ≡ not (beq a b)
-unequal true true = refl
-unequal true false = refl
-unequal false true = refl
-unequal false false = refl
+-- rows 5 and 6, attribute by attribute
+pub attribute_groups : (cfg : Config) → none_fails (attribute_rows cfg) ≡ none_fails (attribute_row cfg 0x00 true) && (none_fails (attribute_row cfg 0x1B true) && (none_fails (attribute_row cfg 0x1C true) && (none_fails (attribute_row cfg 0x12 (heats cfg)) && (none_fails (attribute_row cfg 0x11 (cools cfg)) && none_fails (attribute_row cfg 0x19 (auto cfg))))))
+unfolding attribute_rows
+attribute_groups cfg = simp none_append
 
--- rows two by two
-pub first_two : (w v x : Row) (ws : List Row) → none_fails (w ∷ v ∷ x ∷ ws) ≡ none_fails (w ∷ v ∷ []) && none_fails (x ∷ ws)
-first_two w v x ws = none_append (w ∷ v ∷ []) (x ∷ ws)
+-- rows 11 to 15, event by event
+pub event_groups : (cfg : Config) → none_fails (event_rows cfg) ≡ not (emits cfg 2 || (emits cfg 6 || emits cfg 7)) && (none_fails (event_row cfg 0 true) && (none_fails (event_row cfg 1 (not (local_temperature_not_exposed cfg))) && (none_fails (event_row cfg 3 true) && (none_fails (event_row cfg 4 true) && (none_fails (event_row cfg 5 (auto cfg)) && not (less cfg.delta zero_hundredths))))))
+unfolding event_rows
+event_groups cfg = simp (none_cons, none_last, and_assoc)
 
 -- rows 5 and 6: served exactly where wanted
 pub exactly_served : (served wanted : Bool) → none_fails (row 5 (wanted && not served) ∷ row 6 (not wanted && served) ∷ []) ≡ beq served wanted
