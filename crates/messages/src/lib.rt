@@ -8,11 +8,9 @@ ghost use Rattle.model.specs.Messages as spec;
 ghost use Rattle.messages_taken.specs.Taken.{Takes};
 
 use messages_taken::Taken;
-use records::{
-    Answer, Attrs, Config, Controller, Events, Moment, Notices, OutOfBandMessage, Removed,
-    pending_mask,
-};
+use records::{Answer, Attrs, Config, Controller, OutOfBandMessage, Removed, pending_mask};
 
+// A message for each, as the paper has them: a closure would keep the message from the contract.
 fn take_message(cfg: Config, a: Attrs, m: OutOfBandMessage) -> Taken
     ensures { Takes a (λ r. spec.out_of_band_message cfg r m) (message_removed cfg a m) result }
 {
@@ -42,28 +40,16 @@ fn take_message(cfg: Config, a: Attrs, m: OutOfBandMessage) -> Taken
 }
 
 // The settings go into the record, the bits to those that are pending. A refused message has no bits, and the settings as they were.
-#[tactic(auto, unfolding(model::specs::Answers::packed, model::specs::Answers::push_all, model::specs::Answers::packed_events, model::specs::Answers::emit_all))]
 pub fn out_of_band_message(cfg: Config, r: Controller, m: OutOfBandMessage) -> Answer
     ensures { result ≡ answer_with (spec.out_of_band_message cfg r m) (message_removed cfg r.attrs m) }
 {
     let t = take_message(cfg, r.attrs, m);
-    let a = t.attrs;
-    let o = t.order;
-    let x = t.removed;
-    let before = r.pending;
-    let bits = t.bits;
     let mut q = r;
-    q.attrs = a;
-    q.pending = before | bits;
-    let n = Notices::none();
-    let e = Events::none();
+    q.attrs = t.attrs;
+    q.pending |= t.bits;
     Answer {
-        number: t.number,
-        rec: q,
-        order: o,
-        notices: n,
-        events: e,
-        deadline: Moment::Never,
-        removed: x,
+        order: t.order,
+        removed: t.removed,
+        ..answers::quiet_answer(t.number, q)
     }
 }

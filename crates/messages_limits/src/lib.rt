@@ -7,10 +7,10 @@ ghost use Rattle.model.specs.Messages as spec;
 ghost use Rattle.messages_taken.specs.Taken.{Takes};
 
 use messages_taken::Taken;
-use records::{Attrs, Config, answer_number, pending_mask};
+use records::{Attrs, Config, pending_mask};
 use units::Hundredths;
 
-// The four limits in one store.
+// The four limits in one store. They stand as in the message, which is their only maker: a struct would be made there and read here once.
 #[tactic(auto, unfolding(model::specs::Messages::limits_taken))]
 fn take_limits(
     cfg: Config,
@@ -23,14 +23,10 @@ fn take_limits(
     ensures { result ≡ spec.limits_taken cfg a minh maxh minc maxc }
 {
     let mut s = a.settings;
-    let minheat = units_ranges::clamp(units::widen(minh), cfg.absminheat, cfg.absmaxheat).given;
-    s.minheat = minheat;
-    let maxheat = units_ranges::clamp(units::widen(maxh), cfg.absminheat, cfg.absmaxheat).given;
-    s.maxheat = maxheat;
-    let mincool = units_ranges::clamp(units::widen(minc), cfg.absmincool, cfg.absmaxcool).given;
-    s.mincool = mincool;
-    let maxcool = units_ranges::clamp(units::widen(maxc), cfg.absmincool, cfg.absmaxcool).given;
-    s.maxcool = maxcool;
+    s.minheat = units_ranges::clamp(minh.into(), cfg.absminheat, cfg.absmaxheat).given;
+    s.maxheat = units_ranges::clamp(maxh.into(), cfg.absminheat, cfg.absmaxheat).given;
+    s.mincool = units_ranges::clamp(minc.into(), cfg.absmincool, cfg.absmaxcool).given;
+    s.maxcool = units_ranges::clamp(maxc.into(), cfg.absmincool, cfg.absmaxcool).given;
     records::update_attrs(a, s)
 }
 
@@ -47,14 +43,8 @@ pub fn limits_message(
     ensures { Takes a (λ r. spec.limits_message cfg r minh maxh minc maxc) (repair_removed cfg (spec.limits_taken cfg a minh maxh minc maxc)) result }
 {
     let f = repair::repair(cfg, take_limits(cfg, a, minh, maxh, minc, maxc));
-    let b = f.attrs;
-    let x = f.removed;
-    let o = answers::order_of(b.settings);
     Taken {
-        number: answer_number::DONE,
-        attrs: b,
-        bits: pending_mask::LIMITS | pending_mask::EVENT_SWEEP,
-        order: o,
-        removed: x,
+        order: answers::order_of(f.attrs.settings),
+        ..messages_taken::take(f.attrs, pending_mask::LIMITS, f.removed)
     }
 }

@@ -8,14 +8,15 @@ ghost use Rattle.model.specs.Answers.{quiet};
 ghost use Rattle.model.specs.Messages as spec;
 ghost use Rattle.messages_taken.specs.Taken.{Takes};
 
-use records::{Attrs, Order, Removed, answer_number, pending_mask};
+use records::{Answer, Attrs, PlantOrder, Removed, pending_mask};
 
+// What a message takes is said against the settings before it (`Takes`), which an invariant could not name. `number` is the answer's: a refusal has settings and bits here too, so this is no Result.
 #[derive(Clone, Copy)]
 pub struct Taken {
     pub number: u8,
     pub attrs: Attrs,
     pub bits: u16,
-    pub order: Order,
+    pub order: Option<PlantOrder>,
     pub removed: Removed,
 }
 
@@ -23,12 +24,11 @@ pub struct Taken {
 pub fn quiet_taken(number: u8, a: Attrs, bits: u16, x: Removed) -> Taken
     ensures { Takes a (λ r. quiet number (with_pending r (bit_or r.pending bits))) x result }
 {
-    let o = Order::NoOrder;
     Taken {
         number: number,
         attrs: a,
         bits: bits,
-        order: o,
+        order: None,
         removed: x,
     }
 }
@@ -37,5 +37,5 @@ pub fn quiet_taken(number: u8, a: Attrs, bits: u16, x: Removed) -> Taken
 pub fn take(a: Attrs, bits: u16, x: Removed) -> Taken
     ensures { Takes a (λ r. quiet 0 (spec.raise_bits r bits)) x result }
 {
-    quiet_taken(answer_number::DONE, a, bits | pending_mask::EVENT_SWEEP, x)
+    quiet_taken(Answer::DONE, a, bits | pending_mask::EVENT_SWEEP, x)
 }

@@ -8,11 +8,12 @@ const HOURS: usize = 168;
 
 pub const LAST_HOUR: usize = 167;
 
-const COMFORT: i16 = 2000;
+const COMFORT: Hundredths = Hundredths(2000);
 
-const SETBACK: i16 = 1700;
+const SETBACK: Hundredths = Hundredths(1700);
 
-const WEEK: [i16; HOURS] = [
+// A static: as a const, the array is copied at every look-up.
+static WEEK: [Hundredths; HOURS] = [
     SETBACK, // Monday 00:00
     SETBACK, // Monday 01:00
     SETBACK, // Monday 02:00
@@ -183,9 +184,10 @@ const WEEK: [i16; HOURS] = [
     SETBACK, // Sunday 23:00
 ];
 
+#[tactic(auto, using(model::proofs::Week::entry_by_rule), unfolding(model::specs::Week::week_table))]
 pub fn entry(hour: usize) -> Hundredths
     requires { hour < 168 }
     ensures { result ≡ mill_week hour }
 {
-    Hundredths(WEEK[hour])
+    WEEK[hour]
 }

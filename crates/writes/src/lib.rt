@@ -6,37 +6,18 @@ ghost use Rattle.model.specs.Answers.{answer_with};
 ghost use Rattle.model.specs.Attribution.{armed_clock};
 ghost use Rattle.model.specs.Plans as spec;
 
-use records::{
-    Answer, Attrs, Config, Controller, Events, Moment, Plan, Readings, Settings, Sides, Stored,
-    answer_number,
-};
+use records::{Answer, Attrs, Config, Controller, Plan, Readings, Settings, Sides, Stored};
 
 fn with_stored(s: Settings, x: Stored) -> Settings
     ensures { result ≡ spec.with_stored s x }
 {
-    let mut t = s;
     match x {
         Stored::Nothing => s,
-        Stored::MinHeat(v) => {
-            t.minheat = v;
-            t
-        },
-        Stored::MaxHeat(v) => {
-            t.maxheat = v;
-            t
-        },
-        Stored::MinCool(v) => {
-            t.mincool = v;
-            t
-        },
-        Stored::MaxCool(v) => {
-            t.maxcool = v;
-            t
-        },
-        Stored::Mode(v) => {
-            t.mode = v;
-            t
-        },
+        Stored::MinHeat(v) => Settings { minheat: v, ..s },
+        Stored::MaxHeat(v) => Settings { maxheat: v, ..s },
+        Stored::MinCool(v) => Settings { mincool: v, ..s },
+        Stored::MaxCool(v) => Settings { maxcool: v, ..s },
+        Stored::Mode(v) => Settings { mode: v, ..s },
     }
 }
 
@@ -44,71 +25,55 @@ fn with_stored(s: Settings, x: Stored) -> Settings
 fn keep_gap(cfg: Config, t: Settings, sides: Sides) -> Settings
     ensures { result ≡ spec.gap_kept cfg t sides }
 {
-    let mut u = t;
     match sides {
         Sides::Neither => t,
-        Sides::Heating => {
-            u.cooling = writes_gaps::cooling_with_gap(cfg, t, t.heating);
-            u
+        Sides::Heating => Settings {
+            cooling: writes_gaps::cooling_with_gap(cfg, t, t.heating),
+            ..t
         },
-        Sides::Cooling => {
-            u.heating = writes_gaps::heating_with_gap(cfg, t, t.cooling);
-            u
-        },
-        Sides::Both => {
-            u.heating = writes_gaps::heating_with_gap(cfg, t, t.cooling);
-            u
+        Sides::Cooling | Sides::Both => Settings {
+            heating: writes_gaps::heating_with_gap(cfg, t, t.cooling),
+            ..t
         },
     }
 }
 
-#[tactic(auto, unfolding(model::specs::Plans::any_moved))]
+// By the targets or by the gap. The settings before, at the targets and behind the gap stay apart, here and in `writes_notices` and
+// `writes_records`, as in the definitions.
+#[tactic(auto, using(units::proofs::Comparisons::same), unfolding(model::specs::Plans::any_moved))]
 fn has_any_moved(s: Settings, t: Settings, u: Settings) -> bool
     ensures { result ≡ spec.any_moved s t u }
 {
-    let heating = units::same(s.heating, t.heating);
-    let cooling = units::same(s.cooling, t.cooling);
-    let heating_kept = units::same(t.heating, u.heating);
-    let cooling_kept = units::same(t.cooling, u.cooling);
-    (!heating | !cooling) | (!heating_kept | !cooling_kept)
+    (s.heating != t.heating || s.cooling != t.cooling)
+        || (t.heating != u.heating || t.cooling != u.cooling)
 }
 
+#[tactic(auto, unfolding(model::specs::Plans::performed, model::specs::Plans::moved, model::specs::Answers::packed_events, model::specs::Answers::emit_all))]
 fn perform(cfg: Config, d: Readings, r: Controller, p: Plan) -> Answer
     ensures { result ≡ answer_with (spec.performed cfg d r p) p.removed }
 {
-    let x = p.stored;
-    let sides = p.sides;
-    let heating = p.heating;
-    let cooling = p.cooling;
-    let change = r.change;
-    let a = records::update_attrs(r.attrs, with_stored(r.attrs.settings, x));
+    let a = records::update_attrs(r.attrs, with_stored(r.attrs.settings, p.stored));
     let s = a.settings;
-    let mut t = s;
-    t.heating = heating;
-    t.cooling = cooling;
-    let u = keep_gap(cfg, t, sides);
-    let moved = has_any_moved(s, t, u);
-    let k = writes_records::record_plan(cfg, d, p, s, t, u, change);
-    let b = Attrs {
-        settings: u,
-        dirty: a.dirty | moved,
+    let t = Settings {
+        heating: p.heating,
+        cooling: p.cooling,
+        ..s
     };
-    let mut w = r;
-    w.attrs = b;
-    w.change = k;
+    let u = keep_gap(cfg, t, p.sides);
+    let w = Controller {
+        attrs: Attrs {
+            settings: u,
+            dirty: a.dirty | has_any_moved(s, t, u),
+        },
+        change: writes_records::record_plan(cfg, d, p, s, t, u, r.change),
+        ..r
+    };
     let q = answers::ask_sweep(cfg, w);
-    let o = answers::order_of(u);
-    let n = writes_notices::notify_all(cfg, d, x, s, t, u);
-    let e = Events::none();
-    let removed = p.removed;
     Answer {
-        number: answer_number::DONE,
-        rec: q,
-        order: o,
-        notices: n,
-        events: e,
-        deadline: Moment::Never,
-        removed: removed,
+        order: answers::order_of(u),
+        notices: writes_notices::notify_all(cfg, d, p.stored, s, t, u),
+        removed: p.removed,
+        ..answers::quiet_answer(Answer::DONE, q)
     }
 }
 
@@ -116,9 +81,10 @@ fn arm_if(arms: bool, cfg: Config, d: Readings, r: Controller) -> Controller
     ensures { result ≡ cond arms (armed_clock cfg d r) r }
 {
     if arms {
-        return attribution::arm_clock(cfg, d, r);
+        attribution::arm_clock(cfg, d, r)
+    } else {
+        r
     }
-    r
 }
 
 // Armed first, so a refusal keeps the newly armed clock.
@@ -127,7 +93,7 @@ pub fn carry_out(cfg: Config, d: Readings, r: Controller, p: Plan) -> Answer
     ensures { result ≡ answer_with (spec.carried_out cfg d r p) (spec.plan_removed p) }
 {
     let q = arm_if(p.arms, cfg, d, r);
-    if p.number != answer_number::DONE {
+    if p.number != Answer::DONE {
         return answers::quiet_answer(p.number, q);
     }
     perform(cfg, d, q, p)

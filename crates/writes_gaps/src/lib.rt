@@ -11,28 +11,25 @@ use units::Hundredths;
 fn is_too_near_cooling(cfg: Config, s: Settings, v: Hundredths) -> bool
     ensures { result ≡ spec.too_near_cooling cfg s v }
 {
-    let auto = served::auto(cfg);
-    let near = units::is_above(v, units::sub(s.cooling, limits::dead_band(cfg)));
-    auto & near
+    let highest = s.cooling - limits::dead_band(cfg);
+    served::auto(cfg) && units::is_above(v, highest.wide)
 }
 
 #[tactic(auto, unfolding(model::specs::Writes::too_near_heating))]
 fn is_too_near_heating(cfg: Config, s: Settings, v: Hundredths) -> bool
     ensures { result ≡ spec.too_near_heating cfg s v }
 {
-    let auto = served::auto(cfg);
-    let near = units::is_below(v, units::add(s.heating, limits::dead_band(cfg)));
-    auto & near
+    let lowest = s.heating + limits::dead_band(cfg);
+    served::auto(cfg) && units::is_below(v, lowest.wide)
 }
 
-// Cooling, once heating is `v`.
+// Cooling, once heating is `v`. The two sides mirror each other, one adds and one subtracts, so neither function is the other's.
 #[tactic(auto, unfolding(model::specs::Writes::cooling_with_gap))]
 pub fn cooling_with_gap(cfg: Config, s: Settings, v: Hundredths) -> Hundredths
     ensures { result ≡ spec.cooling_with_gap cfg s v }
 {
     if is_too_near_cooling(cfg, s, v) {
-        let c = limits::clamp_cool_setpoint(cfg, s, units::add(v, limits::dead_band(cfg)));
-        return c.given;
+        return limits::clamp_cool_setpoint(cfg, s, v + limits::dead_band(cfg)).given;
     }
     s.cooling
 }
@@ -43,8 +40,7 @@ pub fn heating_with_gap(cfg: Config, s: Settings, v: Hundredths) -> Hundredths
     ensures { result ≡ spec.heating_with_gap cfg s v }
 {
     if is_too_near_heating(cfg, s, v) {
-        let c = limits::clamp_heat_setpoint(cfg, s, units::sub(v, limits::dead_band(cfg)));
-        return c.given;
+        return limits::clamp_heat_setpoint(cfg, s, v - limits::dead_band(cfg)).given;
     }
     s.heating
 }

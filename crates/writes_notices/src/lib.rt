@@ -1,66 +1,66 @@
 // model/specs/Plans: the notices of a plan carried out.
 #![tactic(auto)]
 
-ghost use Rattle.std.specs.Prelude.{◌≡◌, not, eqb};
-ghost use Rattle.model.specs.Answers.{packed, push_all};
+ghost use Rattle.std.specs.Prelude.{◌≡◌, ◌++◌, not, eqb};
+ghost use Rattle.model.specs.Answers.{packed, push_all, only_if};
+ghost use Rattle.model.specs.Served.{noticed};
 ghost use Rattle.model.specs.Modes.{running_state};
 ghost use Rattle.model.specs.Plans as spec;
-ghost use Rattle.model.specs.Writes.{relay_notices};
+ghost use Rattle.model.specs.Writes.{relay_notices, source_notices};
 ghost use Rattle.writes_notices.specs.Carried.{notices_of};
 
-use records::{Config, Notices, Readings, Settings, Stored, attribute_id};
+use records::{AttributeId, Config, Notices, Readings, Settings, Stored};
 
 #[tactic(auto, using(model::proofs::Packing::push_none))]
 fn notify_limit(cfg: Config, n: Notices, x: Stored) -> Notices
     ensures { result ≡ push_all n (spec.limit_notices cfg x) }
 {
     match x {
-        Stored::Nothing => n,
-        Stored::MinHeat(_) => answers::notify(cfg, n, attribute_id::MIN_HEAT_SETPOINT_LIMIT),
-        Stored::MaxHeat(_) => answers::notify(cfg, n, attribute_id::MAX_HEAT_SETPOINT_LIMIT),
-        Stored::MinCool(_) => answers::notify(cfg, n, attribute_id::MIN_COOL_SETPOINT_LIMIT),
-        Stored::MaxCool(_) => answers::notify(cfg, n, attribute_id::MAX_COOL_SETPOINT_LIMIT),
-        Stored::Mode(_) => n,
+        Stored::MinHeat(_) => answers::notify(cfg, n, AttributeId::MinHeatSetpointLimit as u16),
+        Stored::MaxHeat(_) => answers::notify(cfg, n, AttributeId::MaxHeatSetpointLimit as u16),
+        Stored::MinCool(_) => answers::notify(cfg, n, AttributeId::MinCoolSetpointLimit as u16),
+        Stored::MaxCool(_) => answers::notify(cfg, n, AttributeId::MaxCoolSetpointLimit as u16),
+        Stored::Nothing | Stored::Mode(_) => n,
     }
 }
 
-// A setpoint that moved to its target is noticed with its source, amount and timestamp; one that the gap moved, alone.
+// A setpoint that moved to its target is noticed with its source, amount and timestamp. Not inlined, it copies the notices.
+#[tactic(auto, using(model::proofs::Packing::push_all_append, model::proofs::Packing::push_none), unfolding(model::specs::Answers::only_if, model::specs::Writes::source_notices))]
+#[inline]
+fn notify_change(cfg: Config, n: Notices, moved: bool, code: u16) -> Notices
+    ensures { result ≡ push_all n (only_if moved (noticed cfg code ++ source_notices cfg)) }
+{
+    if !moved {
+        return n;
+    }
+    let a = answers::notify(cfg, n, code);
+    let b = answers::notify(cfg, a, AttributeId::SetpointChangeSource as u16);
+    let c = answers::notify(cfg, b, AttributeId::SetpointChangeAmount as u16);
+    answers::notify(cfg, c, AttributeId::SetpointChangeSourceTimestamp as u16)
+}
+
+// One that the gap moved is noticed alone.
+#[tactic(auto, using(model::proofs::Packing::push_all_append, units::proofs::Comparisons::same), unfolding(model::specs::Plans::move_notices))]
 fn notify_moves(cfg: Config, n: Notices, s: Settings, t: Settings, u: Settings) -> Notices
     ensures { result ≡ push_all n (spec.move_notices cfg s t u) }
 {
-    let heating = !units::same(s.heating, t.heating);
-    let cooling = !units::same(s.cooling, t.cooling);
-    let heating_pushed = !units::same(t.heating, u.heating);
-    let cooling_pushed = !units::same(t.cooling, u.cooling);
-    let a = answers::notify_if(cfg, n, heating, attribute_id::OCCUPIED_HEATING_SETPOINT);
-    let b = answers::notify_if(cfg, a, heating, attribute_id::SETPOINT_CHANGE_SOURCE);
-    let c = answers::notify_if(cfg, b, heating, attribute_id::SETPOINT_CHANGE_AMOUNT);
-    let d = answers::notify_if(
+    let heating = s.heating != t.heating;
+    let cooling = s.cooling != t.cooling;
+    let heating_pushed = t.heating != u.heating;
+    let cooling_pushed = t.cooling != u.cooling;
+    let a = notify_change(cfg, n, heating, AttributeId::OccupiedHeatingSetpoint as u16);
+    let b = notify_change(cfg, a, cooling, AttributeId::OccupiedCoolingSetpoint as u16);
+    let c = answers::notify_if(
         cfg,
-        c,
-        heating,
-        attribute_id::SETPOINT_CHANGE_SOURCE_TIMESTAMP,
-    );
-    let e = answers::notify_if(cfg, d, cooling, attribute_id::OCCUPIED_COOLING_SETPOINT);
-    let f = answers::notify_if(cfg, e, cooling, attribute_id::SETPOINT_CHANGE_SOURCE);
-    let g = answers::notify_if(cfg, f, cooling, attribute_id::SETPOINT_CHANGE_AMOUNT);
-    let h = answers::notify_if(
-        cfg,
-        g,
-        cooling,
-        attribute_id::SETPOINT_CHANGE_SOURCE_TIMESTAMP,
-    );
-    let i = answers::notify_if(
-        cfg,
-        h,
+        b,
         heating_pushed,
-        attribute_id::OCCUPIED_HEATING_SETPOINT,
+        AttributeId::OccupiedHeatingSetpoint as u16,
     );
     answers::notify_if(
         cfg,
-        i,
+        c,
         cooling_pushed,
-        attribute_id::OCCUPIED_COOLING_SETPOINT,
+        AttributeId::OccupiedCoolingSetpoint as u16,
     )
 }
 
@@ -72,13 +72,15 @@ fn have_relays_moved(cfg: Config, d: Readings) -> bool
     before != after
 }
 
-#[tactic(auto, using(crate::proofs::Noticed::pair_noticed), unfolding(model::specs::Writes::relay_notices))]
+#[tactic(auto, using(model::proofs::Packing::push_all_append, model::proofs::Packing::push_none), unfolding(model::specs::Answers::only_if, model::specs::Writes::relay_notices))]
 fn notify_relays(cfg: Config, n: Notices, d: Readings) -> Notices
     ensures { result ≡ push_all n (relay_notices cfg d) }
 {
-    let moved = have_relays_moved(cfg, d);
-    let m = answers::notify_if(cfg, n, moved, attribute_id::THERMOSTAT_RUNNING_STATE);
-    answers::notify_if(cfg, m, moved, attribute_id::THERMOSTAT_RUNNING_MODE)
+    if !have_relays_moved(cfg, d) {
+        return n;
+    }
+    let m = answers::notify(cfg, n, AttributeId::ThermostatRunningState as u16);
+    answers::notify(cfg, m, AttributeId::ThermostatRunningMode as u16)
 }
 
 #[tactic(auto, using(model::proofs::Packing::push_none))]
@@ -86,12 +88,12 @@ fn notify_mode(cfg: Config, n: Notices, x: Stored) -> Notices
     ensures { result ≡ push_all n (spec.mode_notices cfg x) }
 {
     match x {
-        Stored::Nothing => n,
-        Stored::MinHeat(_) => n,
-        Stored::MaxHeat(_) => n,
-        Stored::MinCool(_) => n,
-        Stored::MaxCool(_) => n,
-        Stored::Mode(_) => answers::notify(cfg, n, attribute_id::SYSTEM_MODE),
+        Stored::Mode(_) => answers::notify(cfg, n, AttributeId::SystemMode as u16),
+        Stored::Nothing
+        | Stored::MinHeat(_)
+        | Stored::MaxHeat(_)
+        | Stored::MinCool(_)
+        | Stored::MaxCool(_) => n,
     }
 }
 

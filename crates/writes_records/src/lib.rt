@@ -2,29 +2,29 @@
 #![tactic(auto)]
 
 ghost use Rattle.std.specs.Prelude.{◌≡◌};
+ghost use Rattle.records.specs.Records.{changed_to};
 ghost use Rattle.model.specs.Plans as spec;
 ghost use Rattle.model.specs.Writes.{recorded_if};
 
 use records::{Config, Plan, Readings, SetpointChangeState, Settings, Sides};
 use units::Hundredths;
 
-#[tactic(auto, unfolding(model::specs::Writes::recorded_if))]
-fn record_if(
-    moved: bool,
+// A setpoint that moved is recorded.
+#[tactic(auto, unfolding(model::specs::Writes::recorded_if, units::specs::Units::equal))]
+fn record_move(
     d: Readings,
     source: u8,
     old: Hundredths,
     new: Hundredths,
     c: SetpointChangeState,
 ) -> SetpointChangeState
-    ensures { result ≡ recorded_if moved d source old new c }
+    ensures { result ≡ recorded_if (changed_to old new) d source old new c }
 {
-    if moved {
-        let amount = units_ranges::saturating_sub(new, old);
-        let hook = d.hook;
-        return attribution::record(c, source, amount, hook);
+    if old == new {
+        return c;
     }
-    c
+    let amount = units_ranges::saturating_sub(new, old);
+    attribution::record(c, source, amount, d.hook)
 }
 
 // Heating first: the first record takes the armed second.
@@ -38,22 +38,19 @@ fn record_moves(
 ) -> SetpointChangeState
     ensures { result ≡ spec.moves_recorded d source s t c }
 {
-    let heating = units::same(s.heating, t.heating);
-    let cooling = units::same(s.cooling, t.cooling);
-    let first = record_if(!heating, d, source, s.heating, t.heating, c);
-    record_if(!cooling, d, source, s.cooling, t.cooling, first)
+    let first = record_move(d, source, s.heating, t.heating, c);
+    record_move(d, source, s.cooling, t.cooling, first)
 }
 
 // A stored setpoint claims the pair, an equal one too.
 fn claim_by(sides: Sides, cfg: Config, u: Settings, c: SetpointChangeState) -> SetpointChangeState
     ensures { result ≡ spec.claimed_by sides cfg u c }
 {
-    let pair = attribution::served_setpoints(cfg, u);
     match sides {
         Sides::Neither => c,
-        Sides::Heating => attribution::attribute(c, pair),
-        Sides::Cooling => attribution::attribute(c, pair),
-        Sides::Both => attribution::attribute(c, pair),
+        Sides::Heating | Sides::Cooling | Sides::Both => {
+            attribution::attribute(c, attribution::served_setpoints(cfg, u))
+        },
     }
 }
 
@@ -69,7 +66,6 @@ pub fn record_plan(
 ) -> SetpointChangeState
     ensures { result ≡ spec.claimed_by p.sides cfg u (spec.moves_recorded d p.source s t change) }
 {
-    let sides = p.sides;
     let c = record_moves(d, p.source, s, t, change);
-    claim_by(sides, cfg, u, c)
+    claim_by(p.sides, cfg, u, c)
 }

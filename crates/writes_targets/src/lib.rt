@@ -1,25 +1,26 @@
 // model/specs/Plans: where a write sends the setpoints, and what it stores beside them.
 #![tactic(auto)]
 
+mod target;
+
 ghost use Rattle.std.specs.Prelude.{◌≡◌};
 ghost use Rattle.model.specs.Plans as spec;
 
-use records::{Plan, Removed, Settings, Sides, Stored, answer_number, change_source};
+use records::{Answer, ChangeSource, Plan, Removed, Settings, Sides, Stored};
+pub use target::Target;
 use units::Hundredths;
 
 // A limit or the mode, and no setpoint.
 pub fn setting_alone(s: Settings, stored: Stored) -> Plan
     ensures { result ≡ spec.setting_alone s stored }
 {
-    let heating = s.heating;
-    let cooling = s.cooling;
     Plan {
         stored: stored,
-        heating: heating,
-        cooling: cooling,
+        heating: s.heating,
+        cooling: s.cooling,
         sides: Sides::Neither,
-        number: answer_number::DONE,
-        source: change_source::EXTERNAL,
+        number: Answer::DONE,
+        source: ChangeSource::External as u8,
         arms: false,
         removed: Removed::NOTHING,
     }
@@ -28,21 +29,9 @@ pub fn setting_alone(s: Settings, stored: Stored) -> Plan
 pub fn refusal(s: Settings, number: u8) -> Plan
     ensures { result ≡ spec.refusal s number }
 {
-    let p = setting_alone(s, Stored::Nothing);
     Plan {
         number: number,
-        ..p
-    }
-}
-
-pub fn heating_to(s: Settings, stored: Stored, v: Hundredths) -> Plan
-    ensures { result ≡ spec.heating_to s stored v }
-{
-    let p = setting_alone(s, stored);
-    Plan {
-        heating: v,
-        sides: Sides::Heating,
-        ..p
+        ..setting_alone(s, Stored::Nothing)
     }
 }
 
@@ -56,14 +45,24 @@ pub fn from_source(p: Plan, source: u8) -> Plan
     }
 }
 
+// Of each side, under the names and with the parameters of the definitions; `Target` has them for a rule of both.
+pub fn heating_to(s: Settings, stored: Stored, v: Hundredths) -> Plan
+    ensures { result ≡ spec.heating_to s stored v }
+{
+    Plan {
+        heating: v,
+        sides: Sides::Heating,
+        ..setting_alone(s, stored)
+    }
+}
+
 pub fn cooling_to(s: Settings, stored: Stored, v: Hundredths) -> Plan
     ensures { result ≡ spec.cooling_to s stored v }
 {
-    let p = setting_alone(s, stored);
     Plan {
         cooling: v,
         sides: Sides::Cooling,
-        ..p
+        ..setting_alone(s, stored)
     }
 }
 
@@ -75,8 +74,8 @@ pub fn both_to(h: Hundredths, c: Hundredths) -> Plan
         heating: h,
         cooling: c,
         sides: Sides::Both,
-        number: answer_number::DONE,
-        source: change_source::EXTERNAL,
+        number: Answer::DONE,
+        source: ChangeSource::External as u8,
         arms: false,
         removed: Removed::NOTHING,
     }
