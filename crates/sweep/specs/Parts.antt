@@ -1,7 +1,7 @@
 -- An answer under way, as the code holds it.
 use Rattle.records.specs.Records.{nothing_removed}
 use Rattle.model.specs.Answers.{Outcome, push_all, packed_events}
-use Rattle.records.specs.declared.Notices.{Notices}
+use Rattle.records.specs.Records.{Notices}
 use Rattle.records.specs.declared.Answer.{Answer}
 
 -- the answer of an outcome whose notices come after others

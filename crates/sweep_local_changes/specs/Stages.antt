@@ -1,6 +1,6 @@
 -- A stage of the definitions, as the code holds it: its notices pushed onto those before it.
 use Rattle.model.specs.Answers.{Stage as ModelStage, push_all}
-use Rattle.records.specs.declared.Notices.{Notices}
+use Rattle.records.specs.Records.{Notices}
 use Rattle.sweep_local_changes.specs.declared.Stage.{Stage}
 
 abbrev pub staged : Notices → ModelStage → Stage

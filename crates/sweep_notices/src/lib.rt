@@ -8,7 +8,7 @@ ghost use Rattle.model.specs.Answers.{packed};
 ghost use Rattle.model.specs.Served.{listed};
 ghost use Rattle.model.specs.Sweep.{notice_table, table_notices};
 
-use notice_table::{PENDING_ATTRS, ROWS};
+use notice_table::PENDING_ATTRS;
 use records::{Config, Notices};
 
 pub fn is_pending(pending: u16, bit: u16) -> bool
@@ -17,20 +17,14 @@ pub fn is_pending(pending: u16, bit: u16) -> bool
     served::listed(pending as u64, bit)
 }
 
-#[tactic(auto, unfolding(model::specs::Answers::packed))]
+#[tactic(auto, using(crate::proofs::NoticeTable::from_row, crate::proofs::NoticeTable::past_rows, model::proofs::Packing::push_none, model::proofs::Packing::push_all_append), unfolding(model::specs::Sweep::row_notices, model::specs::Answers::packed))]
 pub fn notify_pending(cfg: Config, pending: u16) -> Notices
     ensures { result ≡ packed (table_notices cfg pending notice_table) }
 {
-    // before the loop: a constant array is put together where it is named
-    let codes = PENDING_ATTRS;
     let mut n = Notices::none();
-    let mut i: usize = 0;
-    while i < ROWS {
-        let row = notice_table::row_of(codes[i]);
-        if is_pending(pending, row.bit) {
-            n = answers::notify(cfg, n, row.code);
-        }
-        i += 1;
+    for stored in PENDING_ATTRS {
+        let row = notice_table::row_of(stored);
+        n = answers::notify_if(cfg, n, is_pending(pending, row.bit), row.code);
     }
     n
 }

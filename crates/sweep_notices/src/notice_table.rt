@@ -2,22 +2,22 @@
 ghost use Rattle.std.specs.Prelude.{◌≡◌};
 ghost use Rattle.sweep_notices.specs.NoticeTable.{bit_of, row_of};
 
-use records::{NoticeRow, attribute_id, pending_bit};
+use records::{AttributeId, NoticeRow, PendingBit};
 
 pub const ROWS: usize = 10;
 
 // The attributes that pending bits report, in ascending order; a byte holds each code.
 pub const PENDING_ATTRS: [u8; ROWS] = [
-    attribute_id::LOCAL_TEMPERATURE as u8,
-    attribute_id::OCCUPIED_COOLING_SETPOINT as u8,
-    attribute_id::OCCUPIED_HEATING_SETPOINT as u8,
-    attribute_id::MIN_HEAT_SETPOINT_LIMIT as u8,
-    attribute_id::MAX_HEAT_SETPOINT_LIMIT as u8,
-    attribute_id::MIN_COOL_SETPOINT_LIMIT as u8,
-    attribute_id::MAX_COOL_SETPOINT_LIMIT as u8,
-    attribute_id::SYSTEM_MODE as u8,
-    attribute_id::THERMOSTAT_RUNNING_MODE as u8,
-    attribute_id::THERMOSTAT_RUNNING_STATE as u8,
+    AttributeId::LocalTemperature as u8,
+    AttributeId::OccupiedCoolingSetpoint as u8,
+    AttributeId::OccupiedHeatingSetpoint as u8,
+    AttributeId::MinHeatSetpointLimit as u8,
+    AttributeId::MaxHeatSetpointLimit as u8,
+    AttributeId::MinCoolSetpointLimit as u8,
+    AttributeId::MaxCoolSetpointLimit as u8,
+    AttributeId::SystemMode as u8,
+    AttributeId::ThermostatRunningMode as u8,
+    AttributeId::ThermostatRunningState as u8,
 ];
 
 // The pending bit of a code, by tests: a match can be compiled to a table of its own.
@@ -25,20 +25,21 @@ pub const PENDING_ATTRS: [u8; ROWS] = [
 fn bit_of(code: u16) -> u16
     ensures { result ≡ bit_of code }
 {
-    if code > attribute_id::SYSTEM_MODE {
-        return pending_bit::RUNNING_STATE;
+    if code > AttributeId::SystemMode as u16 {
+        return PendingBit::RunningState as u16;
     }
-    if code > attribute_id::MAX_COOL_SETPOINT_LIMIT {
-        return pending_bit::SYSTEM_MODE;
+    if code > AttributeId::MaxCoolSetpointLimit as u16 {
+        return PendingBit::SystemMode as u16;
     }
-    if code > attribute_id::OCCUPIED_HEATING_SETPOINT {
-        return code + pending_bit::MIN_HEAT_LIMIT - attribute_id::MIN_HEAT_SETPOINT_LIMIT;
+    if code > AttributeId::OccupiedHeatingSetpoint as u16 {
+        return code + PendingBit::MinHeatLimit as u16 - AttributeId::MinHeatSetpointLimit as u16;
     }
-    if code > attribute_id::LOCAL_TEMPERATURE {
-        return attribute_id::OCCUPIED_HEATING_SETPOINT + pending_bit::OCCUPIED_HEATING_SETPOINT
+    if code > AttributeId::LocalTemperature as u16 {
+        return AttributeId::OccupiedHeatingSetpoint as u16
+            + PendingBit::OccupiedHeatingSetpoint as u16
             - code;
     }
-    pending_bit::LOCAL_TEMPERATURE
+    PendingBit::LocalTemperature as u16
 }
 
 // The row of a stored code.
