@@ -8,17 +8,10 @@ ghost use Rattle.model.specs.Step.{step};
 
 use records::{Answer, Call, Config, Controller, Readings};
 
-// The record that an answer holds.
-fn rec_of(a: Answer) -> Controller
-    ensures { result ≡ a.rec }
-{
-    a.rec
-}
-
 pub fn serve(c: &mut Controller, cfg: Config, d: Readings, k: Call) -> Answer
     ensures { (result ≡ answer_with (step cfg c.old d k) (removed cfg c.old d k)) × (c.new ≡ (step cfg c.old d k).rec) }
 {
     let a = controller::step(cfg, *c, d, k);
-    *c = rec_of(a);
+    *c = a.rec;
     a
 }
