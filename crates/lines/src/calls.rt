@@ -1,48 +1,44 @@
-// The call that a line names.
+// What a line of its form asks for.
 use crate::fields::Fields;
-use crate::forms;
+use crate::forms::Form;
+use crate::{Line, values};
 use records::{Call, OutOfBandMessage};
 
-fn message_of(f: Fields) -> OutOfBandMessage {
-    let row = f.row;
+pub(crate) fn line_of(f: &Fields) -> Line {
     let h = f.hundredths(0);
-    match row {
-        forms::OOB_HEAT => return OutOfBandMessage::OccupiedHeatingSetpoint(h),
-        forms::OOB_COOL => return OutOfBandMessage::OccupiedCoolingSetpoint(h),
-        forms::OOB_MODE => return OutOfBandMessage::SystemMode(f.byte(0)),
-        forms::OOB_LIMITS => return OutOfBandMessage::SetpointLimits(
+    let b: u8 = f.unsigned(0);
+    let call = match f.form {
+        Form::Config => return Line::Config(values::config_of(f)),
+        Form::Open => return Line::Open(values::settings_of(f), values::readings_of(f)),
+        Form::Record => return Line::Record(values::record_of(f)),
+        Form::Heat => Call::WriteOccupiedHeatingSetpoint(h),
+        Form::Cool => Call::WriteOccupiedCoolingSetpoint(h),
+        Form::MinHeat => Call::WriteMinHeatSetpointLimit(h),
+        Form::MaxHeat => Call::WriteMaxHeatSetpointLimit(h),
+        Form::MinCool => Call::WriteMinCoolSetpointLimit(h),
+        Form::MaxCool => Call::WriteMaxCoolSetpointLimit(h),
+        Form::Mode => Call::WriteSystemMode(b),
+        Form::Sequence => Call::SetControlSequenceOfOperation(b),
+        Form::Raise => Call::RaiseLowerSetpoint(b, f.tenths(1)),
+        Form::Arm => Call::ArmClock,
+        Form::Start => Call::SeedEvents,
+        Form::Sweep => Call::Sweep,
+        Form::Timer => Call::Timer,
+        Form::Deadline => Call::Deadline,
+        Form::OobHeat => Call::OutOfBand(OutOfBandMessage::OccupiedHeatingSetpoint(h)),
+        Form::OobCool => Call::OutOfBand(OutOfBandMessage::OccupiedCoolingSetpoint(h)),
+        Form::OobMode => Call::OutOfBand(OutOfBandMessage::SystemMode(b)),
+        Form::OobLimits => Call::OutOfBand(OutOfBandMessage::SetpointLimits(
             h,
             f.hundredths(1),
             f.hundredths(2),
             f.hundredths(3),
-        ),
-        forms::OOB_TEMP => return OutOfBandMessage::LocalTemperature,
-        forms::OOB_RUNNING => return OutOfBandMessage::RunningState,
-        _ => return OutOfBandMessage::Update,
-    }
-}
-
-pub(crate) fn call_of(f: Fields) -> Call {
-    let row = f.row;
-    let h = f.hundredths(0);
-    let b = f.byte(0);
-    match row {
-        forms::HEAT => Call::WriteOccupiedHeatingSetpoint(h),
-        forms::COOL => Call::WriteOccupiedCoolingSetpoint(h),
-        forms::MIN_HEAT => Call::WriteMinHeatSetpointLimit(h),
-        forms::MAX_HEAT => Call::WriteMaxHeatSetpointLimit(h),
-        forms::MIN_COOL => Call::WriteMinCoolSetpointLimit(h),
-        forms::MAX_COOL => Call::WriteMaxCoolSetpointLimit(h),
-        forms::MODE => Call::WriteSystemMode(b),
-        forms::SEQUENCE => Call::SetControlSequenceOfOperation(b),
-        forms::RAISE => Call::RaiseLowerSetpoint(b, f.tenths(1)),
-        forms::ARM => Call::ArmClock,
-        forms::START => Call::SeedEvents,
-        forms::SWEEP => Call::Sweep,
-        forms::TIMER => Call::Timer,
-        forms::DEADLINE => Call::Deadline,
-        forms::RESET => Call::FactoryReset,
-        forms::HOUR => Call::Hour(b),
-        _ => Call::OutOfBand(message_of(f)),
-    }
+        )),
+        Form::OobTemp => Call::OutOfBand(OutOfBandMessage::LocalTemperature),
+        Form::OobRunning => Call::OutOfBand(OutOfBandMessage::RunningState),
+        Form::OobUpdate => Call::OutOfBand(OutOfBandMessage::Update),
+        Form::Reset => Call::FactoryReset,
+        Form::Hour => Call::Hour(b),
+    };
+    Line::Call(call, values::readings_of(f))
 }

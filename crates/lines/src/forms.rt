@@ -1,141 +1,76 @@
 // The lines that the console takes: what may stand in them.
 
-// A row has so many bytes: the first word and a blank, and at most so many numbers.
-const ROW: usize = 33;
-
-const WORD: usize = 11;
-
+// A line has at most so many numbers after its first word.
 pub const NUMBERS: usize = 22;
 
 // The readings stand from this place on, after the mark.
 pub const READINGS: usize = 16;
 
-pub const ROWS: usize = 26;
+#[derive(Clone, Copy, PartialEq, Eq)]
+pub enum Form {
+    Config,
+    Open,
+    Record,
+    Heat,
+    Cool,
+    MinHeat,
+    MaxHeat,
+    MinCool,
+    MaxCool,
+    Mode,
+    Sequence,
+    Raise,
+    Arm,
+    Start,
+    Sweep,
+    Timer,
+    Deadline,
+    OobHeat,
+    OobCool,
+    OobMode,
+    OobLimits,
+    OobTemp,
+    OobRunning,
+    OobUpdate,
+    Reset,
+    Hour,
+}
 
-// A row for each first word: the word, filled up with blanks, and a letter for each number after it, filled up with dots.
+// A letter for each number of a line, filled up with dots.
 //
 // b, w, d and q: unsigned, of 8, 16, 32 and 64 bits. t and h: tenths and hundredths, signed, of 8 and 16 bits. f: 0 or 1.
 // D, Q, H and S: as d, q, h and h, or none. s: as h. @: the word that begins the readings. A line may end before @, S, s and a dot.
-const FORMS: [u8; 858] = *b"\
-    config     wdqqqhhhhtbhshhhhhb...\
-    open       hhhhhhb@........wwHDDq\
-    record     hhhhhhbfwbHdHHDQShhbwb\
-    heat       h@..............wwHDDq\
-    cool       h@..............wwHDDq\
-    minheat    h@..............wwHDDq\
-    maxheat    h@..............wwHDDq\
-    mincool    h@..............wwHDDq\
-    maxcool    h@..............wwHDDq\
-    mode       b@..............wwHDDq\
-    sequence   b@..............wwHDDq\
-    raise      bt@.............wwHDDq\
-    arm        @...............wwHDDq\
-    start      @...............wwHDDq\
-    sweep      @...............wwHDDq\
-    timer      @...............wwHDDq\
-    deadline   @...............wwHDDq\
-    oobheat    h@..............wwHDDq\
-    oobcool    h@..............wwHDDq\
-    oobmode    b@..............wwHDDq\
-    ooblimits  hhhh@...........wwHDDq\
-    oobtemp    @...............wwHDDq\
-    oobrunning @...............wwHDDq\
-    oobupdate  @...............wwHDDq\
-    reset      @...............wwHDDq\
-    hour       b@..............wwHDDq\
-";
+pub type Letters = [u8; NUMBERS];
 
-// The rows, by their words.
-pub const CONFIG: usize = 0;
-
-pub const OPEN: usize = 1;
-
-pub const RECORD: usize = 2;
-
-pub const HEAT: usize = 3;
-
-pub const COOL: usize = 4;
-
-pub const MIN_HEAT: usize = 5;
-
-pub const MAX_HEAT: usize = 6;
-
-pub const MIN_COOL: usize = 7;
-
-pub const MAX_COOL: usize = 8;
-
-pub const MODE: usize = 9;
-
-pub const SEQUENCE: usize = 10;
-
-pub const RAISE: usize = 11;
-
-pub const ARM: usize = 12;
-
-pub const START: usize = 13;
-
-pub const SWEEP: usize = 14;
-
-pub const TIMER: usize = 15;
-
-pub const DEADLINE: usize = 16;
-
-pub const OOB_HEAT: usize = 17;
-
-pub const OOB_COOL: usize = 18;
-
-pub const OOB_MODE: usize = 19;
-
-pub const OOB_LIMITS: usize = 20;
-
-pub const OOB_TEMP: usize = 21;
-
-pub const OOB_RUNNING: usize = 22;
-
-pub const OOB_UPDATE: usize = 23;
-
-pub const RESET: usize = 24;
-
-pub const HOUR: usize = 25;
-
-// A byte of the table, and a dot outside it.
-fn cell(row: usize, i: usize) -> u8 {
-    if row < ROWS {
-        if i < ROW {
-            return FORMS[row * ROW + i];
-        }
-    }
-    b'.'
-}
-
-// The letter at place `i` of a row, and a dot past the last.
-pub(crate) fn letter(row: usize, i: usize) -> u8 {
-    if i < NUMBERS {
-        return cell(row, WORD + i);
-    }
-    b'.'
-}
-
-// Whether a word, in which there is no blank, is a row's first word.
-fn is_first(word: &[u8], row: usize) -> bool {
-    let mut i: usize = 0;
-    while i < word.len() {
-        if word[i] != cell(row, i) {
-            return false;
-        }
-        i += 1;
-    }
-    cell(row, i) == b' '
-}
-
-// The row of a first word, or the count of rows where it is no first word.
-pub(crate) fn row_of(word: &[u8]) -> usize {
-    let mut row: usize = 0;
-    while row < ROWS {
-        if is_first(word, row) {
-            return row;
-        }
-        row += 1;
-    }
-    ROWS
+// What a first word begins, if it is one.
+pub(crate) fn form_of(word: &[u8]) -> Option<(Form, Letters)> {
+    Some(match word {
+        b"config" => (Form::Config, *b"wdqqqhhhhtbhshhhhhb..."),
+        b"open" => (Form::Open, *b"hhhhhhb@........wwHDDq"),
+        b"record" => (Form::Record, *b"hhhhhhbfwbHdHHDQShhbwb"),
+        b"heat" => (Form::Heat, *b"h@..............wwHDDq"),
+        b"cool" => (Form::Cool, *b"h@..............wwHDDq"),
+        b"minheat" => (Form::MinHeat, *b"h@..............wwHDDq"),
+        b"maxheat" => (Form::MaxHeat, *b"h@..............wwHDDq"),
+        b"mincool" => (Form::MinCool, *b"h@..............wwHDDq"),
+        b"maxcool" => (Form::MaxCool, *b"h@..............wwHDDq"),
+        b"mode" => (Form::Mode, *b"b@..............wwHDDq"),
+        b"sequence" => (Form::Sequence, *b"b@..............wwHDDq"),
+        b"raise" => (Form::Raise, *b"bt@.............wwHDDq"),
+        b"arm" => (Form::Arm, *b"@...............wwHDDq"),
+        b"start" => (Form::Start, *b"@...............wwHDDq"),
+        b"sweep" => (Form::Sweep, *b"@...............wwHDDq"),
+        b"timer" => (Form::Timer, *b"@...............wwHDDq"),
+        b"deadline" => (Form::Deadline, *b"@...............wwHDDq"),
+        b"oobheat" => (Form::OobHeat, *b"h@..............wwHDDq"),
+        b"oobcool" => (Form::OobCool, *b"h@..............wwHDDq"),
+        b"oobmode" => (Form::OobMode, *b"b@..............wwHDDq"),
+        b"ooblimits" => (Form::OobLimits, *b"hhhh@...........wwHDDq"),
+        b"oobtemp" => (Form::OobTemp, *b"@...............wwHDDq"),
+        b"oobrunning" => (Form::OobRunning, *b"@...............wwHDDq"),
+        b"oobupdate" => (Form::OobUpdate, *b"@...............wwHDDq"),
+        b"reset" => (Form::Reset, *b"@...............wwHDDq"),
+        b"hour" => (Form::Hour, *b"b@..............wwHDDq"),
+        _ => return None,
+    })
 }

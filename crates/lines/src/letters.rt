@@ -1,43 +1,33 @@
-// What the letters of a form stand for.
+// What the letters of a form stand for. They stay bytes: a row of 22 variants of an enum is no plainer.
 use words::Field;
 
-// The greatest number that a letter takes.
-fn most(letter: u8) -> u64 {
+// How far below zero a letter's numbers go, and how far above.
+fn bounds(letter: u8) -> (u64, u64) {
     match letter {
-        b'f' => 1,
-        b'b' => 255,
-        b't' => 127,
-        b'w' => 65535,
-        b'h' | b'H' | b'S' | b's' => 32767,
-        b'd' | b'D' => 4294967295,
-        _ => 18446744073709551615,
-    }
-}
-
-// How far below zero a letter's numbers go.
-fn lowest(letter: u8) -> u64 {
-    match letter {
-        b't' => 128,
-        b'h' | b'H' | b'S' | b's' => 32768,
-        _ => 0,
+        b'f' => (0, 1),
+        b'b' => (0, 255),
+        b't' => (128, 127),
+        b'w' => (0, 65535),
+        b'h' | b'H' | b'S' | b's' => (32768, 32767),
+        b'd' | b'D' => (0, 4294967295),
+        _ => (0, u64::MAX),
     }
 }
 
 // Whether a word may stand at a letter's place. Numbers stand at small letters and capitals, and none at capitals.
 pub(crate) fn fits(letter: u8, f: Field) -> bool {
     match f {
-        Field::Bad => false,
         Field::At => letter == b'@',
-        Field::Nothing => (b'A' <= letter) & (letter <= b'Z'),
-        Field::Plus(n) => (b'A' <= letter) & (n <= most(letter)),
-        Field::Minus(n) => (b'A' <= letter) & (n <= lowest(letter)),
+        Field::Nothing => letter.is_ascii_uppercase(),
+        Field::Number(n) => {
+            let (below, above) = bounds(letter);
+            let most = if n.negative { below } else { above };
+            letter.is_ascii_alphabetic() & (n.size <= most)
+        }
     }
 }
 
 // Whether a line may end where this letter's number would stand.
 pub(crate) fn is_end(letter: u8) -> bool {
-    match letter {
-        b'@' | b'S' | b's' | b'.' => true,
-        _ => false,
-    }
+    matches!(letter, b'@' | b'S' | b's' | b'.')
 }

@@ -6,51 +6,42 @@ mod fields;
 mod forms;
 mod letters;
 mod numbers;
-mod signed;
 mod values;
 
-ghost use Rattle.lines.specs.Lines.{LineRead};
+ghost use Rattle.std.specs.Prelude.{◌≡◌};
+ghost use Rattle.lines.specs.Lines.{LineRead, unreadable};
 
-use fields::Fields;
 use records::{Call, Config, Controller, Readings, Settings};
+use words::BadWord;
 
 #[derive(Clone, Copy)]
 pub enum Line {
-    // Empty or a comment.
+    // Empty or a comment: a line like others, which asks nothing.
     Nothing,
-    Unreadable,
     Config(Config),
     Record(Controller),
     Open(Settings, Readings),
     Call(Call, Readings),
 }
 
-fn line_of(f: Fields) -> Line {
-    let row = f.row;
-    match row {
-        forms::CONFIG => return Line::Config(values::config_of(f)),
-        forms::OPEN => return Line::Open(
-            values::settings_from(f, values::SETTINGS),
-            values::readings_of(f),
-        ),
-        forms::RECORD => return Line::Record(values::record_of(f)),
-        forms::ROWS => return Line::Unreadable,
-        _ => return Line::Call(calls::call_of(f), values::readings_of(f)),
+#[derive(Clone, Copy, PartialEq, Eq)]
+pub struct Unreadable;
+
+impl From<BadWord> for Unreadable {
+    ghost from_gives = { λ _ e. e ≡ unreadable };
+
+    fn from(_word: BadWord) -> Unreadable {
+        Unreadable
     }
 }
 
 // What a line says, without its newline.
-pub fn read(line: &[u8]) -> Line
+pub fn read(line: &[u8]) -> Result<Line, Unreadable>
     ensures { LineRead line.now result }
 {
-    if line.len() == 0 {
-        return Line::Nothing;
+    match line {
+        [] | [b'#', ..] => Ok(Line::Nothing),
+        _ if 250 < line.len() => Err(Unreadable),
+        _ => Ok(calls::line_of(&fields::fields_of(line)?)),
     }
-    if line[0] == b'#' {
-        return Line::Nothing;
-    }
-    if 250 < line.len() {
-        return Line::Unreadable;
-    }
-    line_of(fields::fields_of(line))
 }

@@ -1,144 +1,100 @@
 // Words as the numbers that they stand for. What a type cannot hold is read as 0, and so is a word that is no number; the
 // letters of a form keep both out.
-ghost use Rattle.std.specs.Prelude.{◌≡◌, ◌<◌};
+ghost use Rattle.std.specs.Prelude.{◌≡◌, ◌<◌, ◌^◌, is_some, Result};
+ghost use Rattle.std.specs.Result.{ResultUnwrapsOrElse};
 ghost use Rattle.std.specs.Int.{w8, w16};
 ghost use Rattle.std.proofs.Common.{SFits};
-ghost use Rattle.words.specs.Words.{size_of, value_of, is_given};
-ghost use Rattle.lines.specs.Numbers.{signed_at};
+ghost use Rattle.words.specs.Words.{is_given, size_of, value_of, signed_of};
+ghost use Rattle.lines.specs.Numbers.{size, signed, size_at, signed_at};
 
 use crate::fields::Fields;
-use crate::signed;
-use crate::signed::SignedNumber;
-use records::{Amount, Moment, Second, Temperature};
 use units::{Hundredths, Tenths};
-use words::Field;
+use words::{Field, Number};
 
-#[derive(Clone, Copy)]
-pub struct Number {
-    pub given: bool,
-    pub size: u64,
-    pub signed: SignedNumber,
-}
+const ZERO: Number = Number {
+    negative: false,
+    size: 0,
+};
 
-impl Number {
-    pub const NONE: Number = Number {
-        given: false,
-        size: 0,
-        signed: SignedNumber(0),
-    };
-
-    pub const ZERO: Number = Number {
-        given: true,
-        size: 0,
-        signed: SignedNumber(0),
-    };
-}
-
-pub(crate) fn number_of(f: Field) -> Number
-    ensures given_value { result.given ≡ is_given f }
-    ensures size_value { result.size ≡ size_of f }
-    ensures signed_value { SFits w16 (value_of f) → result.signed.0 ≡ value_of f }
+pub(crate) fn number_of(f: Field) -> Option<Number>
+    ensures given_value { is_some result ≡ is_given f }
+    ensures size_value { size result ≡ size_of f }
+    ensures signed_value { signed result ≡ value_of f }
 {
     match f {
-        Field::Nothing => return Number::NONE,
-        Field::At => return Number::ZERO,
-        Field::Bad => return Number::ZERO,
-        Field::Plus(n) => return Number {
-            given: true,
-            size: n,
-            signed: signed::positive(n),
-        },
-        Field::Minus(n) => return Number {
-            given: true,
-            size: n,
-            signed: signed::negative(n),
-        },
+        Field::Nothing => None,
+        Field::At => Some(ZERO),
+        Field::Number(n) => Some(n),
     }
 }
 
-pub(crate) fn as_double(n: u64) -> u32
-    ensures { n < 4294967296 → result ≡ n }
+// With its sign. What 64 bits cannot hold is read as 0.
+fn signed_of(n: Number) -> i64
+    ensures { n.size < 2 ^ 63 → result ≡ signed_of n }
 {
-    if n < 4294967296 {
-        return n as u32;
-    }
-    0
+    let size: i64 = fitting(n.size);
+    if n.negative { -size } else { size }
 }
 
-fn as_word(n: u64) -> u16
-    ensures { n < 65536 → result ≡ n }
+// What the type cannot hold is read as 0.
+fn fitting<X, N: TryFrom<X> + Default>(x: X) -> N
+where
+    N::Error: Drop,
+    ensures { (r : Result N N.Error) × N.try_from_gives x r × ResultUnwrapsOrElse r N.is_default result }
 {
-    if n < 65536 {
-        return n as u16;
-    }
-    0
+    N::try_from(x).unwrap_or_default()
 }
 
-fn as_byte(n: u64) -> u8
-    ensures { n < 256 → result ≡ n }
+// A signed number gets its unit here. `SFits` is the library's word for a number that a width holds. No `From`: number and units are types of other crates.
+fn as_hundredths(n: Number) -> Hundredths
+    ensures { SFits w16 (signed_of n) → result.0 ≡ signed_of n }
 {
-    if n < 256 {
-        return n as u8;
-    }
-    0
+    Hundredths(fitting(signed_of(n)))
 }
 
-// The number at place `i` of a line. A signed one gets its unit here.
+fn as_tenths(n: Number) -> Tenths
+    ensures { SFits w8 (signed_of n) → result.0 ≡ signed_of n }
+{
+    Tenths(fitting(signed_of(n)))
+}
+
+// The number at place `i` of a line.
 impl Fields {
-    pub(crate) fn quad(self, i: usize) -> u64 {
-        let n = self.at(i);
-        n.size
-    }
-
-    pub(crate) fn word(self, i: usize) -> u16 {
-        as_word(self.quad(i))
-    }
-
-    pub(crate) fn byte(self, i: usize) -> u8 {
-        as_byte(self.quad(i))
-    }
-
-    pub(crate) fn hundredths(self, i: usize) -> Hundredths
-        ensures { result.0 ≡ signed_at self i }
+    pub(crate) fn unsigned_or_none<N: TryFrom<u64> + Default>(&self, i: usize) -> Option<N>
+    where
+        N::Error: Drop,
     {
-        signed::as_hundredths(self.at(i).signed)
+        let n = self.at(i)?;
+        Some(fitting(n.size))
     }
 
-    pub(crate) fn tenths(self, i: usize) -> Tenths
-        ensures { SFits w8 (signed_at self i) → result.0 ≡ signed_at self i }
+    pub(crate) fn hundredths_or_none(&self, i: usize) -> Option<Hundredths> {
+        self.at(i).map(as_hundredths)
+    }
+
+    fn size(&self, i: usize) -> u64
+        ensures { result ≡ size_at self.now i }
     {
-        signed::as_tenths(self.at(i).signed)
+        self.at(i).map_or(0, |n| n.size)
     }
 
-    pub(crate) fn temperature(self, i: usize) -> Temperature {
-        let n = self.at(i);
-        if n.given {
-            return Temperature::Reading(self.hundredths(i));
-        }
-        Temperature::NoReading
+    pub(crate) fn unsigned<N: TryFrom<u64> + Default>(&self, i: usize) -> N
+    where
+        N::Error: Drop,
+        ensures { (r : Result N N.Error) × N.try_from_gives (size_at self.now i) r × ResultUnwrapsOrElse r N.is_default result }
+    {
+        fitting(self.size(i))
     }
 
-    pub(crate) fn amount(self, i: usize) -> Amount {
-        let n = self.at(i);
-        if n.given {
-            return Amount::Moved(self.hundredths(i));
-        }
-        Amount::NoAmount
+    pub(crate) fn hundredths(&self, i: usize) -> Hundredths
+        ensures { SFits w16 (signed_at self.now i) → result.0 ≡ signed_at self.now i }
+    {
+        self.at(i).map_or(Hundredths::ZERO, as_hundredths)
     }
 
-    pub(crate) fn second(self, i: usize) -> Second {
-        let n = self.at(i);
-        if n.given {
-            return Second::At(as_double(n.size));
-        }
-        Second::NoSecond
-    }
-
-    pub(crate) fn moment(self, i: usize) -> Moment {
-        let n = self.at(i);
-        if n.given {
-            return Moment::Ms(n.size);
-        }
-        Moment::Never
+    pub(crate) fn tenths(&self, i: usize) -> Tenths
+        ensures { SFits w8 (signed_at self.now i) → result.0 ≡ signed_at self.now i }
+    {
+        self.at(i).map_or(Tenths(0), as_tenths)
     }
 }

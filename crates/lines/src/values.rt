@@ -2,19 +2,13 @@
 ghost use Rattle.std.specs.Prelude.{◌<◌};
 
 use crate::fields::Fields;
-use crate::numbers::as_double;
 use records::{
-    Attributed, Attrs, Config, Controller, EventState, Readings, SetpointChangeState, Settings,
-    Shadow, Snapshot,
+    Attrs, Config, Controller, EventState, Readings, SetpointChangeState, Setpoints, Settings,
+    Snapshot,
 };
 
-// The settings of an opening or a record stand from this place on, and the defaults of a configuration.
-pub const SETTINGS: usize = 0;
-
-const DEFAULTS: usize = 12;
-
 // The seven settings that stand from place `i` on, all 0 where no numbers stand there.
-pub(crate) fn settings_from(f: Fields, i: usize) -> Settings
+fn settings_from(f: &Fields, i: usize) -> Settings
     requires { i < 16 }
 {
     Settings {
@@ -24,88 +18,85 @@ pub(crate) fn settings_from(f: Fields, i: usize) -> Settings
         maxheat: f.hundredths(i + 3),
         mincool: f.hundredths(i + 4),
         maxcool: f.hundredths(i + 5),
-        mode: f.byte(i + 6),
+        mode: f.unsigned(i + 6),
     }
 }
 
-pub(crate) fn config_of(f: Fields) -> Config {
+// Those of an opening or a record.
+pub(crate) fn settings_of(f: &Fields) -> Settings {
+    settings_from(f, 0)
+}
+
+pub(crate) fn config_of(f: &Fields) -> Config {
     Config {
-        revision: f.word(0),
-        features: as_double(f.quad(1)),
-        attributes: f.quad(2),
-        events: f.quad(3),
-        commands: f.quad(4),
+        revision: f.unsigned(0),
+        features: f.unsigned(1),
+        attributes: f.unsigned(2),
+        events: f.unsigned(3),
+        commands: f.unsigned(4),
         absminheat: f.hundredths(5),
         absmaxheat: f.hundredths(6),
         absmincool: f.hundredths(7),
         absmaxcool: f.hundredths(8),
         deadband: f.tenths(9),
-        sequence: f.byte(10),
+        sequence: f.unsigned(10),
         delta: f.hundredths(11),
-        defaults: settings_from(f, DEFAULTS),
+        defaults: settings_from(f, 12),
     }
 }
 
-fn attributed_of(f: Fields) -> Attributed {
-    let h = f.at(12);
-    if h.given {
-        return Attributed::Claimed(f.hundredths(12), f.hundredths(13));
-    }
-    Attributed::Unclaimed
+fn attributed_of(f: &Fields) -> Option<Setpoints> {
+    Some(Setpoints {
+        heating: f.hundredths_or_none(12)?,
+        cooling: f.hundredths_or_none(13)?,
+    })
 }
 
-fn change_of(f: Fields) -> SetpointChangeState {
+fn change_of(f: &Fields) -> SetpointChangeState {
     SetpointChangeState {
-        source: f.byte(9),
-        amount: f.amount(10),
-        timestamp: as_double(f.quad(11)),
+        source: f.unsigned(9),
+        amount: f.hundredths_or_none(10),
+        timestamp: f.unsigned(11),
         attributed: attributed_of(f),
-        armed: f.second(14),
+        armed: f.unsigned_or_none(14),
     }
 }
 
-fn snapshot_of(f: Fields) -> Snapshot {
+fn snapshot_of(f: &Fields) -> Snapshot {
     Snapshot {
-        temperature: f.temperature(16),
+        temperature: f.hundredths_or_none(16),
         heating: f.hundredths(17),
         cooling: f.hundredths(18),
-        mode: f.byte(19),
-        relays: f.word(20),
-        runningmode: f.byte(21),
+        mode: f.unsigned(19),
+        relays: f.unsigned(20),
+        runningmode: f.unsigned(21),
     }
 }
 
-// The snapshot stands there or not.
-fn shadow_of(f: Fields) -> Shadow {
-    if 16 < f.next {
-        return Shadow::Seeded(snapshot_of(f));
-    }
-    Shadow::Unseeded
-}
-
-pub(crate) fn record_of(f: Fields) -> Controller {
+pub(crate) fn record_of(f: &Fields) -> Controller {
     Controller {
         attrs: Attrs {
-            settings: settings_from(f, SETTINGS),
-            dirty: f.quad(7) == 1,
+            settings: settings_of(f),
+            dirty: f.unsigned::<u64>(7) == 1,
         },
-        pending: f.word(8),
+        pending: f.unsigned(8),
         events: EventState {
-            shadow: shadow_of(f),
-            last: f.moment(15),
+            // The snapshot stands there or not.
+            shadow: (16 < f.next).then(|| snapshot_of(f)),
+            last: f.unsigned_or_none(15),
         },
         change: change_of(f),
     }
 }
 
 // The numbers after @, all 0 and none where that does not stand in the line.
-pub(crate) fn readings_of(f: Fields) -> Readings {
+pub(crate) fn readings_of(f: &Fields) -> Readings {
     Readings {
-        relaysbefore: f.word(16),
-        relaysafter: f.word(17),
-        temperature: f.temperature(18),
-        hook: f.second(19),
-        node: f.second(20),
-        clock: f.quad(21),
+        relaysbefore: f.unsigned(16),
+        relaysafter: f.unsigned(17),
+        temperature: f.hundredths_or_none(18),
+        hook: f.unsigned_or_none(19),
+        node: f.unsigned_or_none(20),
+        clock: f.unsigned(21),
     }
 }

@@ -4,188 +4,132 @@
 ghost use Rattle.text.specs.Pages.{Room, Within};
 
 use records::{
-    Amount, Answer, Attributed, Attrs, Controller, EventState, Moment, Order, Removed, Second,
-    SetpointChangeState, Settings, Shadow, Snapshot, Temperature,
+    Answer, Attrs, Controller, EventState, PlantOrder, Removed, SetpointChangeState, Setpoints,
+    Settings, Snapshot,
 };
-use text::{Page, Value};
-use units::{Hundredths, Wide};
-
-fn temperature(t: Temperature) -> Value {
-    match t {
-        Temperature::NoReading => Value::Absent,
-        Temperature::Reading(v) => Value::Degrees(v),
-    }
-}
-
-fn amount(m: Amount) -> Value {
-    match m {
-        Amount::NoAmount => Value::Absent,
-        Amount::Moved(v) => Value::Degrees(v),
-    }
-}
-
-fn second(s: Second) -> Value {
-    match s {
-        Second::NoSecond => Value::Absent,
-        Second::At(n) => Value::Number(n as u64),
-    }
-}
-
-fn moment(m: Moment) -> Value {
-    match m {
-        Moment::Never => Value::Absent,
-        Moment::Ms(n) => Value::Number(n),
-    }
-}
-
-fn number(page: &mut Page, at: usize, name: usize, n: u64) -> usize
-    requires { Room at 32 }
-    ensures { Within at 32 result }
-{
-    text::field(page, at, name, Value::Number(n))
-}
-
-fn degrees(page: &mut Page, at: usize, name: usize, v: Hundredths) -> usize
-    requires { Room at 32 }
-    ensures { Within at 32 result }
-{
-    text::field(page, at, name, Value::Degrees(v))
-}
-
-fn difference(page: &mut Page, at: usize, name: usize, v: Wide) -> usize
-    requires { Room at 32 }
-    ensures { Within at 32 result }
-{
-    text::field(page, at, name, Value::Difference(v))
-}
+use text::{Label, Page, Value};
 
 // Two setpoints, the second after a slash.
-fn setpoints(page: &mut Page, at: usize, name: usize, h: Hundredths, c: Hundredths) -> usize
-    requires { Room at 64 }
-    ensures { Within at 64 result }
+fn setpoints(page: &mut Page, label: Label, s: Setpoints)
+    requires { Room page.old 64 }
+    ensures { Within page.old page.new 64 }
 {
-    let a = degrees(page, at, name, h);
-    degrees(page, a, text::SLASH, c)
+    page.field(label, s.heating);
+    page.field(Label::Slash, s.cooling);
 }
 
-fn settings(page: &mut Page, at: usize, s: Settings) -> usize
-    requires { Room at 224 }
-    ensures { Within at 224 result }
+fn settings(page: &mut Page, s: Settings)
+    requires { Room page.old 224 }
+    ensures { Within page.old page.new 224 }
 {
-    let a = degrees(page, at, text::HEATING, s.heating);
-    let a = degrees(page, a, text::COOLING, s.cooling);
-    let a = degrees(page, a, text::MIN_HEAT, s.minheat);
-    let a = degrees(page, a, text::MAX_HEAT, s.maxheat);
-    let a = degrees(page, a, text::MIN_COOL, s.mincool);
-    let a = degrees(page, a, text::MAX_COOL, s.maxcool);
-    number(page, a, text::MODE, s.mode as u64)
+    page.field(Label::Heating, s.heating);
+    page.field(Label::Cooling, s.cooling);
+    page.field(Label::MinHeat, s.minheat);
+    page.field(Label::MaxHeat, s.maxheat);
+    page.field(Label::MinCool, s.mincool);
+    page.field(Label::MaxCool, s.maxcool);
+    page.field(Label::Mode, u64::from(s.mode));
 }
 
-fn attrs(page: &mut Page, at: usize, s: Attrs) -> usize
-    requires { Room at 256 }
-    ensures { Within at 256 result }
+fn attrs(page: &mut Page, s: Attrs)
+    requires { Room page.old 256 }
+    ensures { Within page.old page.new 256 }
 {
-    let a = settings(page, at, s.settings);
-    number(page, a, text::DIRTY, s.dirty as u64)
+    settings(page, s.settings);
+    page.field(Label::Dirty, u64::from(s.dirty));
 }
 
-fn snapshot(page: &mut Page, at: usize, s: Snapshot) -> usize
-    requires { Room at 192 }
-    ensures { Within at 192 result }
+fn snapshot(page: &mut Page, s: Snapshot)
+    requires { Room page.old 192 }
+    ensures { Within page.old page.new 192 }
 {
-    let t = s.temperature;
-    let a = text::field(page, at, text::SHADOW, temperature(t));
-    let a = setpoints(page, a, text::SLASH, s.heating, s.cooling);
-    let a = number(page, a, text::SLASH, s.mode as u64);
-    let a = number(page, a, text::SLASH, s.relays as u64);
-    number(page, a, text::SLASH, s.runningmode as u64)
+    page.field(Label::Shadow, s.temperature);
+    let pair = Setpoints {
+        heating: s.heating,
+        cooling: s.cooling,
+    };
+    setpoints(page, Label::Slash, pair);
+    page.field(Label::Slash, u64::from(s.mode));
+    page.field(Label::Slash, u64::from(s.relays));
+    page.field(Label::Slash, u64::from(s.runningmode));
 }
 
-fn shadow(page: &mut Page, at: usize, s: Shadow) -> usize
-    requires { Room at 192 }
-    ensures { Within at 192 result }
+fn event_state(page: &mut Page, s: EventState)
+    requires { Room page.old 224 }
+    ensures { Within page.old page.new 224 }
 {
-    match s {
-        Shadow::Unseeded => text::field(page, at, text::SHADOW, Value::Absent),
-        Shadow::Seeded(n) => snapshot(page, at, n),
+    match s.shadow {
+        Some(n) => snapshot(page, n),
+        None => page.field(Label::Shadow, Value::Absent),
     }
+    page.field(Label::Last, s.last);
 }
 
-fn event_state(page: &mut Page, at: usize, s: EventState) -> usize
-    requires { Room at 224 }
-    ensures { Within at 224 result }
-{
-    let n = s.shadow;
-    let a = shadow(page, at, n);
-    let m = s.last;
-    text::field(page, a, text::LAST, moment(m))
-}
-
-fn attributed(page: &mut Page, at: usize, p: Attributed) -> usize
-    requires { Room at 64 }
-    ensures { Within at 64 result }
+fn attributed(page: &mut Page, p: Option<Setpoints>)
+    requires { Room page.old 64 }
+    ensures { Within page.old page.new 64 }
 {
     match p {
-        Attributed::Unclaimed => text::field(page, at, text::ATTRIBUTED, Value::Absent),
-        Attributed::Claimed(h, c) => setpoints(page, at, text::ATTRIBUTED, h, c),
+        Some(s) => setpoints(page, Label::Attributed, s),
+        None => page.field(Label::Attributed, Value::Absent),
     }
 }
 
-fn change(page: &mut Page, at: usize, s: SetpointChangeState) -> usize
-    requires { Room at 192 }
-    ensures { Within at 192 result }
+fn change(page: &mut Page, s: SetpointChangeState)
+    requires { Room page.old 192 }
+    ensures { Within page.old page.new 192 }
 {
-    let a = number(page, at, text::SOURCE, s.source as u64);
-    let m = s.amount;
-    let a = text::field(page, a, text::AMOUNT, amount(m));
-    let a = number(page, a, text::TIMESTAMP, s.timestamp as u64);
-    let p = s.attributed;
-    let a = attributed(page, a, p);
-    let n = s.armed;
-    text::field(page, a, text::ARMED, second(n))
+    page.field(Label::Source, u64::from(s.source));
+    page.field(Label::Amount, s.amount);
+    page.field(Label::Timestamp, s.timestamp);
+    attributed(page, s.attributed);
+    page.field(Label::Armed, s.armed);
 }
 
-fn order(page: &mut Page, at: usize, o: Order) -> usize
-    requires { Room at 96 }
-    ensures { Within at 96 result }
+fn order(page: &mut Page, o: Option<PlantOrder>)
+    requires { Room page.old 96 }
+    ensures { Within page.old page.new 96 }
 {
     match o {
-        Order::NoOrder => text::field(page, at, text::ORDER, Value::Absent),
-        Order::Apply(mode, h, c) => {
-            let a = number(page, at, text::ORDER, mode as u64);
-            setpoints(page, a, text::SLASH, h, c)
+        Some(p) => {
+            page.field(Label::Order, u64::from(p.mode));
+            let pair = Setpoints {
+                heating: p.heating,
+                cooling: p.cooling,
+            };
+            setpoints(page, Label::Slash, pair);
         }
+        None => page.field(Label::Order, Value::Absent),
     }
 }
 
-fn record(page: &mut Page, at: usize, r: Controller) -> usize
-    requires { Room at 704 }
-    ensures { Within at 704 result }
+fn record(page: &mut Page, r: Controller)
+    requires { Room page.old 704 }
+    ensures { Within page.old page.new 704 }
 {
-    let a = attrs(page, at, r.attrs);
-    let a = number(page, a, text::PENDING, r.pending as u64);
-    let a = event_state(page, a, r.events);
-    change(page, a, r.change)
+    attrs(page, r.attrs);
+    page.field(Label::Pending, u64::from(r.pending));
+    event_state(page, r.events);
+    change(page, r.change);
 }
 
 // The answer of a call or an opening, without deadline, amounts removed and newline.
-pub fn answer(page: &mut Page, at: usize, a: Answer) -> usize
-    requires { Room at 2208 }
-    ensures { Within at 2208 result }
+pub fn answer(page: &mut Page, a: &Answer)
+    requires { Room page.old 2208 }
+    ensures { Within page.old page.new 2208 }
 {
-    let b = number(page, at, text::NONE, a.number as u64);
-    let b = record(page, b, a.rec);
-    let o = a.order;
-    let b = order(page, b, o);
-    let b = notice_lists::notices(page, b, a.notices);
-    event_lists::events(page, b, a.events)
+    page.field(Label::Nothing, u64::from(a.number));
+    record(page, a.rec);
+    order(page, a.order);
+    notice_lists::notices(page, &a.notices);
+    event_lists::events(page, &a.events);
 }
 
 // The amounts that clamping removed. They end an answer's line, after a deadline.
-pub fn removed(page: &mut Page, at: usize, x: Removed) -> usize
-    requires { Room at 64 }
-    ensures { Within at 64 result }
+pub fn removed(page: &mut Page, x: Removed)
+    requires { Room page.old 64 }
+    ensures { Within page.old page.new 64 }
 {
-    let a = difference(page, at, text::CUT, x.heating);
-    difference(page, a, text::SLASH, x.cooling)
+    page.field(Label::Cut, x.heating);
+    page.field(Label::Slash, x.cooling);
 }

@@ -2,19 +2,17 @@
 #![tactic(auto)]
 
 mod feed;
-mod places;
 mod replies;
 mod serve;
+mod session;
 
 ghost use Rattle.sessions.specs.Sessions.{Placed};
 
-use records::{Config, Controller};
+pub use session::{Held, Session};
 use std::io::{Read, Write};
 
-// A line of more bytes than this less one is too long, so no more of it is kept.
-pub type Held = [u8; 251];
-
 // `line` lines are read. Of the next one `held` bytes are there, and of the page `filled` bytes are written.
+// Lengths without their buffers, since `run` promises of both that none is left.
 #[derive(Clone, Copy)]
 pub struct Place {
     pub line: u64,
@@ -23,20 +21,13 @@ pub struct Place {
     pub writable: bool,
 }
 
-#[derive(Clone, Copy)]
-pub struct Session {
-    pub config: Config,
-    pub rec: Controller,
-    pub place: Place,
-}
-
 // The whole of the input. At the end no part of a line is left unserved, and no part of an answer unwritten.
 pub fn run<I: Read, O: Write>(input: &mut I, output: &mut O) -> Place
     ensures { Placed result 0 0 }
 {
-    let mut line = [0u8; 251];
-    let mut page = [0u8; 65536];
-    let s = feed::read_all(&mut line, &mut page, input, output);
-    let t = feed::serve_rest(s, &mut line, &mut page, output);
-    places::flush(t.place, &mut page, output)
+    let mut s = Session::new();
+    s.read_all(input, output);
+    s.serve_rest(output);
+    s.flush(output);
+    s.place()
 }

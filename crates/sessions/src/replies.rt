@@ -3,92 +3,63 @@ ghost use Rattle.std.specs.Prelude.{◌≡◌};
 ghost use Rattle.text.specs.Pages.{Room, Within};
 ghost use Rattle.sessions.specs.Sessions.{configured, answered};
 
-use lines::Line;
-use records::{Answer, Call, Config, Controller, Moment, answer_number};
-use text::{Page, Value};
+use lines::{Line, Unreadable};
+use records::{Answer, Call, Config, Controller};
+use text::{Label, Page, Value};
 
-pub(crate) fn config_after(c: Config, line: Line) -> Config
+pub(crate) fn config_after(c: Config, line: Result<Line, Unreadable>) -> Config
     ensures { result ≡ configured c line }
 {
     match line {
-        Line::Config(given) => given,
+        Ok(Line::Config(given)) => given,
         _ => c,
     }
 }
 
 // Of a line that asks nothing of the controller, a quiet answer with the record that it leaves.
-pub(crate) fn answer_to(c: Config, r: Controller, line: Line) -> Answer
+// A match and no closure: each kind of line has values of its own.
+pub(crate) fn answer_to(c: Config, r: Controller, line: Result<Line, Unreadable>) -> Answer
     ensures { result ≡ answered c r line }
 {
     match line {
-        Line::Open(settings, _) => opening::open(c, settings),
-        Line::Call(k, d) => controller::step(c, r, d, k),
-        Line::Record(given) => answers::quiet_answer(answer_number::DONE, given),
-        _ => answers::quiet_answer(answer_number::DONE, r),
+        Ok(Line::Open(settings, _)) => opening::open(c, settings),
+        Ok(Line::Call(k, d)) => controller::step(c, r, d, k),
+        Ok(Line::Record(given)) => answers::quiet_answer(Answer::DONE, given),
+        _ => answers::quiet_answer(Answer::DONE, r),
     }
-}
-
-fn is_deadline(k: Call) -> bool {
-    match k {
-        Call::Deadline => true,
-        _ => false,
-    }
-}
-
-fn moment(m: Moment) -> Value {
-    match m {
-        Moment::Never => Value::Absent,
-        Moment::Ms(n) => Value::Number(n),
-    }
-}
-
-fn end_line(page: &mut Page, at: usize) -> usize
-    requires { Room at 32 }
-    ensures { Within at 32 result }
-{
-    text::field(page, at, text::NEWLINE, Value::Empty)
 }
 
 // A deadline query has its deadline besides.
-fn write_deadline(page: &mut Page, at: usize, with_deadline: bool, m: Moment) -> usize
-    requires { Room at 32 }
-    ensures { Within at 32 result }
+fn write_answer(page: &mut Page, a: &Answer, with_deadline: bool)
+    requires { Room page.old 2336 }
+    ensures { Within page.old page.new 2336 }
 {
+    printing::answer(page, a);
     if with_deadline {
-        return text::field(page, at, text::DEADLINE, moment(m));
+        page.field(Label::Deadline, a.deadline);
     }
-    at
-}
-
-fn write_answer(page: &mut Page, at: usize, a: Answer, with_deadline: bool) -> usize
-    requires { Room at 2336 }
-    ensures { Within at 2336 result }
-{
-    let b = printing::answer(page, at, a);
-    let m = a.deadline;
-    let b = write_deadline(page, b, with_deadline, m);
-    let b = printing::removed(page, b, a.removed);
-    end_line(page, b)
+    printing::removed(page, a.removed);
+    page.field(Label::Newline, Value::Empty);
 }
 
 // A line that cannot be read answers `error` and its number.
-fn write_error(page: &mut Page, at: usize, line: u64) -> usize
-    requires { Room at 64 }
-    ensures { Within at 64 result }
+fn write_error(page: &mut Page, line: u64)
+    requires { Room page.old 64 }
+    ensures { Within page.old page.new 64 }
 {
-    let b = text::field(page, at, text::ERROR, Value::Number(line));
-    end_line(page, b)
+    page.field(Label::Error, line);
+    page.field(Label::Newline, Value::Empty);
 }
 
-pub(crate) fn write_reply(page: &mut Page, at: usize, number: u64, line: Line, a: Answer) -> usize
-    requires { Room at 2336 }
-    ensures { Within at 2336 result }
+pub(crate) fn write_reply(page: &mut Page, number: u64, line: Result<Line, Unreadable>, a: &Answer)
+    requires { Room page.old 2336 }
+    ensures { Within page.old page.new 2336 }
 {
     match line {
-        Line::Nothing => at,
-        Line::Unreadable => write_error(page, at, number),
-        Line::Open(_, _) => write_answer(page, at, a, false),
-        Line::Call(k, _) => write_answer(page, at, a, is_deadline(k)),
-        _ => text::field(page, at, text::OK, Value::Empty),
+        Ok(Line::Nothing) => {}
+        Err(_) => write_error(page, number),
+        Ok(Line::Open(_, _)) => write_answer(page, a, false),
+        Ok(Line::Call(k, _)) => write_answer(page, a, matches!(k, Call::Deadline)),
+        Ok(_) => page.field(Label::Ok, Value::Empty),
     }
 }

@@ -2,10 +2,50 @@
 ghost use Rattle.std.specs.Prelude.{◌≤◌};
 
 // A label has at most so many bytes.
-pub const LONGEST: usize = 10;
+pub(crate) const LONGEST: usize = 10;
 
-// Each label, filled up with tildes, of which none has any.
-pub const LABELS: [u8; 340] = *b"\
+// A label's discriminant is its row in the table.
+#[derive(Clone, Copy, PartialEq, Eq)]
+pub enum Label {
+    Nothing = 0,
+    Heating = 1,
+    Cooling = 2,
+    MinHeat = 3,
+    MaxHeat = 4,
+    MinCool = 5,
+    MaxCool = 6,
+    Mode = 7,
+    Dirty = 8,
+    Pending = 9,
+    Shadow = 10,
+    Last = 11,
+    Source = 12,
+    Amount = 13,
+    Timestamp = 14,
+    Attributed = 15,
+    Armed = 16,
+    Order = 17,
+    Notices = 18,
+    Events = 19,
+    Deadline = 20,
+    Cut = 21,
+    SystemModeChange = 22,
+    LocalTemperatureChange = 23,
+    SetpointChange = 24,
+    RunningStateChange = 25,
+    RunningModeChange = 26,
+    Close = 27,
+    Comma = 28,
+    Semicolon = 29,
+    Slash = 30,
+    Ok = 31,
+    Error = 32,
+    Newline = 33,
+}
+
+// Each label, filled up with tildes, of which none has any. Rows of one length: that a label has room is known by the type.
+// Static, since a const would be built anew for each label.
+pub(crate) static LABELS: [u8; 340] = *b"\
     ~~~~~~~~~~\
     \x20h=~~~~~~~\
     \x20c=~~~~~~~\
@@ -42,12 +82,11 @@ pub const LABELS: [u8; 340] = *b"\
     \n~~~~~~~~~\
 ";
 
-// Where a label begins: the empty one, where there is no such label.
-pub(crate) fn start(i: usize) -> usize
-    ensures { result ≤ 330 }
-{
-    if i < 34 {
-        return i * LONGEST;
+impl Label {
+    // Where a label's row begins.
+    pub(crate) fn start(self) -> usize
+        ensures { result ≤ 330 }
+    {
+        self as usize * LONGEST
     }
-    0
 }

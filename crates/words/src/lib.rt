@@ -2,102 +2,65 @@
 #![tactic(auto)]
 
 ghost use Rattle.std.specs.Prelude.{◌≡◌};
-ghost use Rattle.words.specs.Words.{appended_of, digits_of, plus_of, minus_of, is_only, field_of};
+ghost use Rattle.words.specs.Words.{appended_of, digits_of, number_of, field_of};
 
-// A number is a sign and a size. What is neither none, nor the mark, nor a number of 64 bits, is bad.
-#[derive(Clone, Copy)]
+// A sign and a size, both always there: `-0` is not `0`.
+#[derive(Clone, Copy, PartialEq, Eq)]
+pub struct Number {
+    pub negative: bool,
+    pub size: u64,
+}
+
+// What a word says: nothing is said by a dash.
+#[derive(Clone, Copy, PartialEq, Eq)]
 pub enum Field {
-    Bad,
     At,
     Nothing,
-    Plus(u64),
-    Minus(u64),
+    Number(Number),
 }
 
-// What digits spell.
-#[derive(Clone, Copy)]
-pub enum Digits {
-    NoNumber,
-    Size(u64),
-}
+// A word that is neither none, nor the mark, nor a number of 64 bits.
+#[derive(Clone, Copy, PartialEq, Eq)]
+pub struct BadWord;
 
 // The number with one more digit, where the byte is a digit and 64 bits hold the number.
 #[tactic(auto, unfolding(crate::specs::Words::appended_of))]
-fn appended(size: u64, byte: u8) -> Digits
+fn appended(size: u64, byte: u8) -> Option<u64>
     ensures { result ≡ appended_of size byte }
 {
-    if byte < 48 {
-        return Digits::NoNumber;
+    if !byte.is_ascii_digit() {
+        return None;
     }
-    if 57 < byte {
-        return Digits::NoNumber;
-    }
-    let d = (byte - 48) as u64;
-    if (18446744073709551615 - d) / 10 < size {
-        return Digits::NoNumber;
-    }
-    Digits::Size(size * 10 + d)
+    size.checked_mul(10)?.checked_add(u64::from(byte - b'0'))
 }
 
-#[tactic(auto, unfolding(crate::specs::Words::digits_after))]
-fn digits_of(word: &[u8]) -> Digits
+#[tactic(auto, using(crate::proofs::Spoiled::spoiled_at), unfolding(crate::specs::Words::digits_after))]
+fn digits_of(word: &[u8]) -> Option<u64>
     ensures { result ≡ digits_of word.now }
 {
-    let mut size: u64 = 0;
-    let mut i: usize = 0;
-    while i < word.len() {
-        match appended(size, word[i]) {
-            Digits::NoNumber => return Digits::NoNumber,
-            Digits::Size(n) => size = n,
-        }
-        i += 1;
+    let mut size = 0;
+    for byte in word {
+        size = appended(size, *byte)?;
     }
-    Digits::Size(size)
+    Some(size)
 }
 
-fn plus(d: Digits) -> Field
-    ensures { result ≡ plus_of d }
+fn number_of(negative: bool, digits: &[u8]) -> Result<Field, BadWord>
+    ensures { result ≡ number_of negative (digits_of digits.now) }
 {
-    match d {
-        Digits::NoNumber => Field::Bad,
-        Digits::Size(n) => Field::Plus(n),
-    }
+    let size = digits_of(digits).ok_or(BadWord)?;
+    Ok(Field::Number(Number { negative, size }))
 }
 
-fn minus(d: Digits) -> Field
-    ensures { result ≡ minus_of d }
-{
-    match d {
-        Digits::NoNumber => Field::Bad,
-        Digits::Size(n) => Field::Minus(n),
-    }
-}
-
-#[tactic(auto, unfolding(crate::specs::Words::is_only))]
-fn is_only(word: &[u8], byte: u8) -> bool
-    ensures { result ≡ is_only word.now byte }
-{
-    if word.len() == 1 {
-        return word[0] == byte;
-    }
-    false
-}
-
-#[tactic(auto, unfolding(crate::specs::Words::field_of))]
-pub fn field_of(word: &[u8]) -> Field
+#[tactic(auto, unfolding(crate::specs::Words::field_of, crate::specs::Words::is_only))]
+pub fn field_of(word: &[u8]) -> Result<Field, BadWord>
     ensures { result ≡ field_of word.now }
 {
-    if word.len() == 0 {
-        return Field::Bad;
+    match word {
+        [] => Err(BadWord),
+        b"-" => Ok(Field::Nothing),
+        b"@" => Ok(Field::At),
+        [b'-', digits @ ..] => number_of(true, digits),
+        digits => number_of(false, digits),
     }
-    if is_only(word, b'-') {
-        return Field::Nothing;
-    }
-    if is_only(word, b'@') {
-        return Field::At;
-    }
-    if word[0] == b'-' {
-        return minus(digits_of(&word[1..]));
-    }
-    plus(digits_of(word))
 }
