@@ -5,10 +5,11 @@ ghost use Rattle.std.specs.Prelude.{◌≡◌};
 ghost use Rattle.probes.specs.Probes.{temperature_of};
 ghost use Rattle.embedding.specs.Numbers.{in_numbers};
 
-use records::{Probe, Temperature};
+use records::Probe;
 use units::Hundredths;
 
 // A nullable temperature: null where `given` is 0, else it is 1. There is no gap in it, so every byte has a value.
+// C has no Option, so the flag stands beside the value.
 #[repr(C)]
 #[derive(Clone, Copy)]
 pub struct NullableTemperature {
@@ -16,18 +17,16 @@ pub struct NullableTemperature {
     pub given: u16,
 }
 
-fn in_numbers(t: Temperature) -> NullableTemperature
-    ensures { result ≡ in_numbers t }
-{
-    match t {
-        Temperature::NoReading => NullableTemperature {
-            hundredths: Hundredths::ZERO,
-            given: 0,
-        },
-        Temperature::Reading(v) => NullableTemperature {
-            hundredths: v,
-            given: 1,
-        },
+impl From<Option<Hundredths>> for NullableTemperature {
+    ghost use Rattle.embedding.specs.Numbers.{in_numbers};
+
+    ghost from_gives = { λ t n. n ≡ in_numbers t };
+
+    fn from(t: Option<Hundredths>) -> NullableTemperature {
+        NullableTemperature {
+            hundredths: t.unwrap_or(Hundredths::ZERO),
+            given: t.is_some().into(),
+        }
     }
 }
 
@@ -35,5 +34,5 @@ fn in_numbers(t: Temperature) -> NullableTemperature
 pub fn thermostat_probe_degrees(degrees: f32) -> NullableTemperature
     ensures { result ≡ in_numbers (temperature_of (Probe.Degrees degrees)) }
 {
-    in_numbers(probes::temperature_of(Probe::Degrees(degrees)))
+    probes::temperature_of(Probe::Degrees(degrees)).into()
 }

@@ -1,54 +1,48 @@
 -- How far the totals grow: no answer has more than 13 notices and 6 events.
+use Rattle.std.specs.Prelude.{Option, None, Some}
 use Prim.Native.Nat.{ℕ, zero, suc, ◌*◌, ◌≤◌}
 use native.Mathlib.Omega.{arith}
 use mathlib.Core.Bool.{Bool, true, false, not, ◌&&◌}
 use mathlib.Core.List.{List, [], ◌∷◌}
 use lib.Dec.{ltb, eqb}
 use borrow.Author.Tests.{ltb-true}
+use Rattle.records.specs.FixedLists.{pushed}
 use Rattle.records.specs.Records.{no_notices, no_events}
+use Rattle.records.specs.declared.fixed_list.FixedList.{FixedList}
 use Rattle.model.specs.Answers.{fold_left, push, push_all, packed, emit, emit_all, packed_events}
 use Rattle.model.specs.Plant.{plant, no_readings}
 use Rattle.model.specs.Step.{step}
 use Rattle.records.specs.declared.Event.{Event}
-use Rattle.records.specs.declared.Notices.{Notices}
-use Rattle.records.specs.declared.Events.{Events}
-use Rattle.records.specs.declared.Order.{Order}
-use Rattle.records.specs.declared.Order.TheVariants.{NoOrder, Apply}
+use Rattle.records.specs.declared.PlantOrder.{PlantOrder}
 use Rattle.model.proofs.Logic.{by_cond}
 use Rattle.load.specs.Totals.{one_if, orders_of, chosen_of, turned, is_sweep, load_of, TotalsBounded}
 use Rattle.load.specs.declared.totals.Load.{Load}
 
-push_most : (n : Notices) (c : ℕ) → n.len ≤ 13 → (push n c).len ≤ 13
-unfolding push
-push_most n c h = by_cond (λ (m : Notices). m.len ≤ 13) (ltb n.len 13) _ n (λ e. omega (arith, ltb-true n.len 13 e)) (λ e. h)
+pushed_most : {T : Type 0} (most : ℕ) (l : FixedList T most) (x : T) → l.len ≤ most → (pushed most l x).len ≤ most
+unfolding pushed
+pushed_most {T} most l x h = by_cond (λ (m : FixedList T most). m.len ≤ most) (ltb l.len most) _ l (λ e. omega (arith, ltb-true l.len most e)) (λ e. h)
 
-push_all_most : (n : Notices) (l : List ℕ) → n.len ≤ 13 → (fold_left push n l).len ≤ 13
-push_all_most n [] h = h
-push_all_most n (c ∷ cs) h = push_all_most (push n c) cs (push_most n c h)
+all_most :
+    {T A : Type 0} (most : ℕ) (add : FixedList T most → A → FixedList T most) → ((l : FixedList T most) (x : A) → l.len ≤ most → (add l x).len ≤ most)
+    → (l : FixedList T most) (xs : List A) → l.len ≤ most → (fold_left add l xs).len ≤ most
+all_most most add f l [] h = h
+all_most most add f l (x ∷ xs) h = all_most most add f (add l x) xs (f l x h)
 
 pub notices_most : (l : List ℕ) → (packed l).len ≤ 13
-unfolding packed push_all
-notices_most l = push_all_most no_notices l (omega arith)
-
-emit_most : (es : Events) (e : Event) → es.len ≤ 6 → (emit es e).len ≤ 6
-unfolding emit
-emit_most es e h = by_cond (λ (m : Events). m.len ≤ 6) (ltb es.len 6) _ es (λ e. omega (arith, ltb-true es.len 6 e)) (λ e. h)
-
-emit_all_most : (es : Events) (l : List Event) → es.len ≤ 6 → (fold_left emit es l).len ≤ 6
-emit_all_most es [] h = h
-emit_all_most es (e ∷ l) h = emit_all_most (emit es e) l (emit_most es e h)
+unfolding packed push_all push
+notices_most l = all_most 13 push (pushed_most 13) no_notices l (omega arith)
 
 pub events_most : (l : List Event) → (packed_events l).len ≤ 6
-unfolding packed_events emit_all
-events_most l = emit_all_most no_events l (omega arith)
+unfolding packed_events emit_all emit
+events_most l = all_most 6 emit (λ es e. pushed_most 6 es (Some e)) no_events l (omega arith)
 
 one_most : (t : Bool) → one_if t ≤ 1
 one_most true = omega arith
 one_most false = omega arith
 
-orders_most : (o : Order) → orders_of o ≤ 1
-orders_most NoOrder = omega arith
-orders_most (Apply m h c) = omega arith
+orders_most : (o : Option PlantOrder) → orders_of o ≤ 1
+orders_most None = omega arith
+orders_most (Some o) = omega arith
 
 record AtMost (t : ℕ) (l : Load) : Type 0 where
   accepted : l.accepted ≤ t

@@ -1,3 +1,2 @@
 pub mod Draws
 pub mod Totals
-pub mod Arguments

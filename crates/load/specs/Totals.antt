@@ -1,11 +1,10 @@
 -- The load: calls on one record, a sweep after every 16, and what their answers sum up to.
-use Rattle.std.specs.Prelude.{Bool, not, ◌&&◌, cond, ℕ, zero, suc, ◌+◌, ◌/◌, ◌%◌, ◌≤◌, eqb}
+use Rattle.std.specs.Prelude.{Bool, not, ◌&&◌, cond, ℕ, zero, suc, ◌+◌, ◌/◌, ◌%◌, ◌≤◌, eqb, Option, None, Some}
 use Rattle.model.specs.Answers.{answer}
 use Rattle.model.specs.Plant.{plant, plant_settings, no_readings}
 use Rattle.model.specs.Step.{opened, step}
 use Rattle.records.specs.declared.Answer.{Answer}
-use Rattle.records.specs.declared.Order.{Order}
-use Rattle.records.specs.declared.Order.TheVariants.{NoOrder, Apply}
+use Rattle.records.specs.declared.PlantOrder.{PlantOrder}
 use Rattle.records.specs.declared.Call.TheVariants.{Sweep}
 use Rattle.load.specs.Draws.{drawn, draw_of}
 use Rattle.load.specs.declared.draws.Drawn.{Drawn}
@@ -14,9 +13,9 @@ use Rattle.load.specs.declared.totals.Load.{Load}
 abbrev pub one_if : Bool → ℕ
 one_if t = cond t 1 0
 
-abbrev pub orders_of : Order → ℕ
-orders_of NoOrder = 0
-orders_of (Apply m h c) = 1
+abbrev pub orders_of : Option PlantOrder → ℕ
+orders_of None = 0
+orders_of (Some o) = 1
 
 -- the totals with one more answer; a sweep is no call, so it is not counted as accepted
 abbrev pub counted : Load → Bool → ℕ → Answer → Load

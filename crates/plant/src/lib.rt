@@ -6,8 +6,8 @@ ghost use Rattle.integers.specs.Linear.{pos_part};
 ghost use Rattle.model.specs.Plant as spec;
 
 use records::{
-    Call, Config, OutOfBandMessage, Readings, Second, Settings, Temperature, control_sequence,
-    feature, raise_lower_mode, system_mode,
+    Call, Config, OutOfBandMessage, RaiseLowerMode, Readings, Settings, control_sequence, feature,
+    system_mode,
 };
 use units::{Hundredths, Tenths};
 
@@ -54,44 +54,42 @@ pub fn no_readings() -> Readings
     Readings {
         relaysbefore: 0,
         relaysafter: 0,
-        temperature: Temperature::NoReading,
-        hook: Second::NoSecond,
-        node: Second::NoSecond,
+        temperature: None,
+        hook: None,
+        node: None,
         clock: 0,
     }
 }
+
+// The calls after the opening.
+static TEN_CALLS: [Call; 9] = [
+    Call::WriteOccupiedHeatingSetpoint(Hundredths(2100)),
+    Call::WriteOccupiedHeatingSetpoint(Hundredths(2901)),
+    Call::RaiseLowerSetpoint(RaiseLowerMode::Both as u8, Tenths(10)),
+    Call::OutOfBand(OutOfBandMessage::OccupiedCoolingSetpoint(Hundredths(2300))),
+    Call::WriteMaxCoolSetpointLimit(Hundredths(3100)),
+    Call::WriteOccupiedCoolingSetpoint(Hundredths(2300)),
+    Call::OutOfBand(OutOfBandMessage::SetpointLimits(
+        Hundredths(2000),
+        Hundredths(1000),
+        Hundredths(1600),
+        Hundredths(1600),
+    )),
+    // Mode 3 names no side.
+    Call::RaiseLowerSetpoint(3, Tenths(10)),
+    Call::RaiseLowerSetpoint(RaiseLowerMode::Cool as u8, Tenths(-128)),
+];
 
 // The calls after the opening, counted from 0; past the last, a sweep.
 pub fn call_at(i: u64) -> Call
     ensures { result ≡ get_or spec.ten_calls i Call.Sweep }
 {
-    match i {
-        0 => Call::WriteOccupiedHeatingSetpoint(Hundredths(2100)),
-        1 => Call::WriteOccupiedHeatingSetpoint(Hundredths(2901)),
-        2 => Call::RaiseLowerSetpoint(raise_lower_mode::BOTH, Tenths(10)),
-        3 => Call::OutOfBand(OutOfBandMessage::OccupiedCoolingSetpoint(Hundredths(2300))),
-        4 => Call::WriteMaxCoolSetpointLimit(Hundredths(3100)),
-        5 => Call::WriteOccupiedCoolingSetpoint(Hundredths(2300)),
-        6 => Call::OutOfBand(OutOfBandMessage::SetpointLimits(
-            Hundredths(2000),
-            Hundredths(1000),
-            Hundredths(1600),
-            Hundredths(1600),
-        )),
-        // Mode 3 names no side.
-        7 => Call::RaiseLowerSetpoint(3, Tenths(10)),
-        8 => Call::RaiseLowerSetpoint(raise_lower_mode::COOL, Tenths(-128)),
-        _ => Call::Sweep,
-    }
+    TEN_CALLS.get(i as usize).copied().unwrap_or(Call::Sweep)
 }
 
 // The number itself, and 0 for one below. A setpoint of this plant is never below 0.
 pub fn whole(v: Hundredths) -> u64
     ensures { result ≡ pos_part v.0 }
 {
-    let x = v.0;
-    if x < 0 {
-        return 0;
-    }
-    x as u64
+    u64::try_from(v.0).unwrap_or(0)
 }

@@ -1,4 +1,5 @@
 -- What a bit pattern gives, by its exponent; and that a pattern is read as its float is.
+use Rattle.std.specs.Prelude.{None, Some}
 use mathlib.Core.Path.{◌≡◌, refl, sym, ap, ap₂, ◌∙◌, subst}
 use mathlib.Core.Bool.{Bool, true, false, not, cond, ◌&&◌}
 use Prim.Native.Nat.{ℕ, zero, suc, ◌+◌, ◌-◌, ◌*◌, ◌/◌, ◌%◌, ◌^◌, ◌≤◌, ◌<◌}
@@ -6,18 +7,16 @@ use native.Mathlib.Nat.{mul_assoc, one-mul, mul-le-mul, pow-le-pow_right, pow-su
 use native.Mathlib.Omega.{arith}
 use lib.Dec.{T, eqb}
 use lib.Pow.{pow_pos, pow-add}
-use lib.IntN.{ℤ, pos, negsuc, neg_ℤ, nat_abs, ◌-ℤ◌, +ℤ_idl}
+use lib.IntN.{ℤ, pos, negsuc, neg_ℤ, nat_abs}
 use lib.Signed.{le_z, ◌≤ℤ◌}
-use lib.Ieee.{Float, nan, inf, fin, binary32, prec, low, hid, to_bits, of_fields, is_nan, nan_bits, ne}
+use lib.Ieee.{Float, nan, inf, fin, binary32, prec, low, hid, to_bits, of_fields, is_nan, nan_bits}
 use lib.Ieee as ieee
 use lib.Ieee.Bits.{to_bits-of_bits, nan_bits_is}
-use lib.Ieee.Compare.{differs_from_itself}
 use lib.Ieee.Exact.{HasValue, odd_sign}
 use borrow.Author.Tests.{ne_eqb, eqb-true}
 use Rattle.integers.proofs.Clamp.{by_test}
-use Rattle.integers.proofs.Linear.{linear, false_le_z, diff_parts}
+use Rattle.integers.proofs.Linear.{linear, false_le_z}
 use Rattle.units.specs.Units.{hundredths}
-use Rattle.records.specs.declared.Temperature.TheVariants.{NoReading, Reading}
 use Rattle.probes.specs.Probes.{sign_of, exponent_of, fraction_of, Value, not_finite, exactly, signed, significand, exact_value, half_to_even, nearest_hundredths, in_range, of_value, of_pattern, of_degrees, StandsFor, ExactByStandard, EveryPattern, SubnormalsGiveZero}
 use Rattle.probes.proofs.Rounding.{biased, scaled, rounds_to_0, not_below}
 use Rattle.probes.proofs.Nearest.{sign_abs}
@@ -42,28 +41,23 @@ by_size b h =
 
 -- ---- by the exponent
 -- the range, on a size with its sign
-pub inside : (z : ℤ) → negsuc 27314 ≤ℤ z → z ≤ℤ pos 32767 → in_range z ≡ Reading (hundredths z)
+pub inside : (z : ℤ) → negsuc 27314 ≤ℤ z → z ≤ℤ pos 32767 → in_range z ≡ Some (hundredths z)
 unfolding in_range
 inside z l h =
     let a : le_z (negsuc 27314) z ≡ true = omega linear in
     let b : le_z z (pos 32767) ≡ true = omega linear in
-    ap₂ (λ (t u : Bool). cond (t && u) (Reading (hundredths z)) NoReading) a b
+    ap₂ (λ (t u : Bool). cond (t && u) (Some (hundredths z)) None) a b
 
-pub inside_below : (n : ℕ) → n ≤ 27315 → in_range (signed true n) ≡ Reading (hundredths (pos 0 -ℤ pos n))
-inside_below n h =
-    let e : neg_ℤ (pos n) ≡ pos 0 -ℤ pos n = sym (+ℤ_idl (neg_ℤ (pos n))) in
-    ap in_range e ∙ inside (pos 0 -ℤ pos n) (omega (linear, diff_parts (pos 0) (pos n))) (omega (linear, diff_parts (pos 0) (pos n)))
-
-pub outside_below : (n : ℕ) → 27315 < n → in_range (signed true n) ≡ NoReading
+pub outside_below : (n : ℕ) → 27315 < n → in_range (signed true n) ≡ None
 unfolding in_range
 outside_below zero h = absurd (omega arith)
-outside_below (suc n) h = ap (λ (t : Bool). cond (t && le_z (negsuc n) (pos 32767)) (Reading (hundredths (negsuc n))) NoReading) (false_le_z (negsuc 27314) (negsuc n) (omega arith))
+outside_below (suc n) h = ap (λ (t : Bool). cond (t && le_z (negsuc n) (pos 32767)) (Some (hundredths (negsuc n))) None) (false_le_z (negsuc 27314) (negsuc n) (omega arith))
 
-pub outside_above : (n : ℕ) → 32767 < n → in_range (signed false n) ≡ NoReading
+pub outside_above : (n : ℕ) → 32767 < n → in_range (signed false n) ≡ None
 unfolding in_range
-outside_above n h = ap (λ (t : Bool). cond t (Reading (hundredths (pos n))) NoReading) (false_le_z (pos n) (pos 32767) (omega arith))
+outside_above n h = ap (λ (t : Bool). cond t (Some (hundredths (pos n))) None) (false_le_z (pos n) (pos 32767) (omega arith))
 
-outside : (s : Bool) (n : ℕ) → 32767 < n → in_range (signed s n) ≡ NoReading
+outside : (s : Bool) (n : ℕ) → 32767 < n → in_range (signed s n) ≡ None
 outside true n h = outside_below n (omega arith)
 outside false n h = outside_above n h
 
@@ -81,10 +75,10 @@ large e t h =
     let m = mul-le-mul {n₁ = 8388608} {m₁ = 2 ^ 149} {n₂ = significand e t} {m₂ = 2 ^ (e - 1)} l p in
     not_below (100 * (significand e t * 2 ^ (e - 1))) (2 ^ 149) 32768 (pow_pos 149) (far_above (2 ^ 149) (significand e t * 2 ^ (e - 1)) m)
 
-pub too_large : (b : ℕ) → 149 < exponent_of b → of_pattern b ≡ NoReading
+pub too_large : (b : ℕ) → 149 < exponent_of b → of_pattern b ≡ None
 unfolding of_pattern exact_value
 too_large b h =
-    by_test (λ (v : Value). of_value v ≡ NoReading) (eqb (exponent_of b) 255) not_finite _ (λ e. refl)
+    by_test (λ (v : Value). of_value v ≡ None) (eqb (exponent_of b) 255) not_finite _ (λ e. refl)
     (λ e.
     ap in_range (round_signed (sign_of b) (significand (exponent_of b) (fraction_of b) * 2 ^ (exponent_of b - 1)) (2 ^ 149) (pow_pos 149))
     ∙ outside (sign_of b) (size_of (exponent_of b) (fraction_of b)) (large (exponent_of b) (fraction_of b) h))
@@ -155,38 +149,22 @@ subnormals_give_zero b h =
     ∙ ap (λ (n : ℕ). in_range (signed (sign_of b) n)) (too_small (exponent_of b) (fraction_of b) (omega arith) (mod-lt b (omega arith)))
     ∙ no_sign (sign_of b)
   where
-    no_sign : (s : Bool) → in_range (signed s 0) ≡ Reading (hundredths (pos 0))
+    no_sign : (s : Bool) → in_range (signed s 0) ≡ Some (hundredths (pos 0))
     no_sign true = refl
     no_sign false = refl
 
 -- a NaN's pattern gives null, as the NaN does; any other is the bits of its float
-of_nan : (x : Float) → is_nan x ≡ true → of_degrees x ≡ NoReading
+pub of_nan : (x : Float) → is_nan x ≡ true → of_degrees x ≡ None
 unfolding is_nan
 of_nan nan e = refl
 of_nan (inf s) e = absurd (subst T (sym e) tt)
 of_nan (fin s m k) e = absurd (subst T (sym e) tt)
 
-not_nan : (x : Float) → is_nan x ≡ false → of_degrees x ≡ of_pattern (to_bits binary32 x)
+pub not_nan : (x : Float) → is_nan x ≡ false → of_degrees x ≡ of_pattern (to_bits binary32 x)
 unfolding is_nan
 not_nan nan e = absurd (subst T e tt)
 not_nan (inf s) e = refl
 not_nan (fin s m k) e = refl
-
--- the code's test: a NaN alone differs from itself
-pub differs : (x : Float) → ne x x ≡ true → of_degrees x ≡ NoReading
-differs x e = ap of_degrees (differs_from_itself x (subst T (sym e) tt))
-
-is_number : (x : Float) → ne x x ≡ false → is_nan x ≡ false
-unfolding ne ieee.eq is_nan
-is_number nan e = e
-is_number (inf s) e = refl
-is_number (fin s m k) e = refl
-
-pub has_bits : (x : Float) → ne x x ≡ false → T (not (is_nan x))
-has_bits x e = subst (λ (t : Bool). T (not t)) (sym (is_number x e)) tt
-
-pub by_bits : (x : Float) → ne x x ≡ false → of_degrees x ≡ of_pattern (to_bits binary32 x)
-by_bits x e = not_nan x (is_number x e)
 
 first_holds : (a b : Bool) → a && b ≡ true → a ≡ true
 first_holds true b e = refl

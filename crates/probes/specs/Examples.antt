@@ -1,18 +1,15 @@
 -- C-18: document 02's worked cases, the edges of the rule, and probes at document 01's plant, computed.
-use Rattle.std.specs.Prelude.{◌≡◌, true, List, [], ◌∷◌, map, ℕ, ◌-◌, negsuc, Float}
+use Rattle.std.specs.Prelude.{◌≡◌, true, List, [], ◌∷◌, map, ℕ, ◌-◌, negsuc, Float, Option, None, Some}
 use Rattle.std.specs.Float.{binary32}
 use Rattle.std.specs.Float.Ieee as ieee
 use Rattle.units.specs.Units.{hundredths}
+use Rattle.units.specs.declared.Hundredths.{Hundredths}
 use Rattle.records.specs.Records.{current_snapshot}
 use Rattle.model.specs.Validation.{accepted}
 use Rattle.model.specs.Step.{opened, step}
 use Rattle.model.specs.Plant.{at, plant, plant_settings}
 use Rattle.records.specs.declared.Config.{Config}
 use Rattle.records.specs.declared.Controller.{Controller}
-use Rattle.records.specs.declared.Temperature.{Temperature}
-use Rattle.records.specs.declared.Temperature.TheVariants.{NoReading, Reading}
-use Rattle.records.specs.declared.Second.TheVariants.{NoSecond}
-use Rattle.records.specs.declared.Shadow.TheVariants.{Seeded}
 use Rattle.records.specs.declared.Event.TheVariants.{LocalTemperatureChange}
 use Rattle.records.specs.declared.Readings.{Readings}
 use Rattle.records.specs.declared.Probe.{Probe}
@@ -26,17 +23,17 @@ pattern b = ieee.of_bits binary32 b
 
 pub record Case : Type 0 where
   pub bits : ℕ
-  pub gives : Temperature
+  pub gives : Option Hundredths
 
 abbrev pub null : ℕ → Case
-null b = record { bits = b; gives = NoReading }
+null b = record { bits = b; gives = None }
 
 abbrev pub above : ℕ → ℕ → Case
-above b n = record { bits = b; gives = Reading (at n) }
+above b n = record { bits = b; gives = Some (at n) }
 
 -- -n, for an n above 0
 abbrev pub below : ℕ → ℕ → Case
-below b n = record { bits = b; gives = Reading (hundredths (negsuc (n - 1))) }
+below b n = record { bits = b; gives = Some (hundredths (negsuc (n - 1))) }
 
 abbrev pub Holds : List Case → Type 0
 Holds cases = map (λ (c : Case). temperature_of (Degrees (pattern c.bits))) cases ≡ map (λ (c : Case). c.gives) cases
@@ -64,7 +61,7 @@ Edges =
 
 -- At document 01's plant: a start at 20.5, then each minute a timer with 21, a fault and 19.
 abbrev pub at_minute : Probe → ℕ → Readings
-at_minute p ms = readings_of p 0 0 NoSecond NoSecond ms
+at_minute p ms = readings_of p 0 0 None None ms
 
 abbrev pub started : Config → Probe → Controller
 started cfg p = (step cfg (opened cfg (plant_settings 2000 2250)).rec (at_minute p 0) SeedEvents).rec
@@ -75,9 +72,9 @@ ProbesReported =
     let warmer = step plant first (at_minute (Degrees (pattern 0x41A80000)) 60000) Timer in
     let faulty = step plant warmer.rec (at_minute (Fault 7) 120000) Timer in
     let cooler = step plant faulty.rec (at_minute (Degrees (pattern 0x41980000)) 180000) Timer in
-    (warmer.events ≡ LocalTemperatureChange (Reading (at 2100)) ∷ [])
-    × (faulty.events ≡ LocalTemperatureChange NoReading ∷ [])
-    × (cooler.events ≡ LocalTemperatureChange (Reading (at 1900)) ∷ [])
+    (warmer.events ≡ LocalTemperatureChange (Some (at 2100)) ∷ [])
+    × (faulty.events ≡ LocalTemperatureChange None ∷ [])
+    × (cooler.events ≡ LocalTemperatureChange (Some (at 1900)) ∷ [])
 
 -- With LTNE, and so without the temperature event, the start's snapshot is the same whatever the probe delivers, and has no temperature.
 abbrev pub not_exposed : Config
@@ -99,7 +96,7 @@ not_exposed = record {
 
 abbrev pub NotReported : Type 0
 NotReported =
-    let s = current_snapshot NoReading (plant_settings 2000 2250) 0 0 in
+    let s = current_snapshot None (plant_settings 2000 2250) 0 0 in
     (accepted not_exposed ≡ true)
-    × ((started not_exposed (Degrees (pattern 0x41A40000))).events.shadow ≡ Seeded s)
-    × ((started not_exposed Absent).events.shadow ≡ Seeded s)
+    × ((started not_exposed (Degrees (pattern 0x41A40000))).events.shadow ≡ Some s)
+    × ((started not_exposed Absent).events.shadow ≡ Some s)

@@ -1,11 +1,12 @@
 -- Document 02, C-18: probes that report degrees.
-use Rattle.std.specs.Prelude.{◌≡◌, ◌⊎◌, Bool, true, false, ◌&&◌, cond, ℕ, ◌+◌, ◌-◌, ◌*◌, ◌/◌, ◌%◌, ◌^◌, ◌<◌, ◌≤◌, eqb, ltb, leb, ℤ, pos, negsuc, neg_ℤ, nat_abs, ◌-ℤ◌, ◌*ℤ◌, Float}
+use Rattle.std.specs.Prelude.{◌≡◌, ◌⊎◌, Bool, true, false, ◌&&◌, cond, ℕ, ◌+◌, ◌-◌, ◌*◌, ◌/◌, ◌%◌, ◌^◌, ◌<◌, ◌≤◌, eqb, ltb, leb, ℤ, pos, negsuc, neg_ℤ, nat_abs, ◌-ℤ◌, ◌*ℤ◌, Float, Option, None, Some}
 use Rattle.std.specs.Int.Signed.{le_z}
 use Rattle.std.specs.Float.{nan, inf, fin, binary32}
 use Rattle.std.specs.Float.Ieee.{to_bits}
 use Rattle.std.specs.Float.Ieee as ieee
 use Rattle.std.specs.Float.Ieee.Exact.{HasValue}
 use Rattle.units.specs.Units.{hundredths}
+use Rattle.units.specs.declared.Hundredths.{Hundredths}
 use Rattle.model.specs.Answers.{answer_with}
 use Rattle.model.specs.Served.{local_temperature_not_exposed}
 use Rattle.model.specs.Temperature.{reported_temperature}
@@ -15,9 +16,6 @@ use Rattle.records.specs.declared.Answer.{Answer}
 use Rattle.records.specs.declared.Call.{Call}
 use Rattle.records.specs.declared.Config.{Config}
 use Rattle.records.specs.declared.Controller.{Controller}
-use Rattle.records.specs.declared.Temperature.{Temperature}
-use Rattle.records.specs.declared.Temperature.TheVariants.{NoReading, Reading}
-use Rattle.records.specs.declared.Second.{Second}
 use Rattle.records.specs.declared.Readings.{Readings}
 use Rattle.records.specs.declared.Probe.{Probe}
 use Rattle.records.specs.declared.Probe.TheVariants.{Absent, Fault, Degrees}
@@ -82,31 +80,31 @@ abbrev pub Nearest : Fraction → ℤ → Type 0
 Nearest f z = (w : ℤ) → (distance f z ≤ distance f w) × (distance f w ≡ distance f z → (w ≡ z) ⊎ (nat_abs z % 2 ≡ 0))
 
 -- a result outside -27315..32767 gives null
-unfoldable pub in_range : ℤ → Temperature
-in_range z = cond (le_z (negsuc 27314) z && le_z z (pos 32767)) (Reading (hundredths z)) NoReading
+unfoldable pub in_range : ℤ → Option Hundredths
+in_range z = cond (le_z (negsuc 27314) z && le_z z (pos 32767)) (Some (hundredths z)) None
 
-abbrev pub of_value : Value → Temperature
-of_value not_finite = NoReading
+abbrev pub of_value : Value → Option Hundredths
+of_value not_finite = None
 of_value (exactly f) = in_range (nearest_hundredths f)
 
 -- what a bit pattern gives
-unfoldable pub of_pattern : ℕ → Temperature
+unfoldable pub of_pattern : ℕ → Option Hundredths
 of_pattern b = of_value (exact_value b)
 
 -- what a float gives: a NaN, of which there is one here, has no bits of its own
-abbrev pub of_degrees : Float → Temperature
-of_degrees nan = NoReading
+abbrev pub of_degrees : Float → Option Hundredths
+of_degrees nan = None
 of_degrees (inf s) = of_pattern (to_bits binary32 (inf s))
 of_degrees (fin s m e) = of_pattern (to_bits binary32 (fin s m e))
 
 -- nothing and a fault code give null
-abbrev pub temperature_of : Probe → Temperature
-temperature_of Absent = NoReading
-temperature_of (Fault code) = NoReading
+abbrev pub temperature_of : Probe → Option Hundredths
+temperature_of Absent = None
+temperature_of (Fault code) = None
 temperature_of (Degrees x) = of_degrees x
 
 -- the readings of a call, their temperature from a probe
-abbrev pub readings_of : Probe → ℕ → ℕ → Second → Second → ℕ → Readings
+abbrev pub readings_of : Probe → ℕ → ℕ → Option ℕ → Option ℕ → ℕ → Readings
 readings_of probe before after hook node clock = record {
   relaysbefore = before;
   relaysafter = after;
@@ -139,7 +137,7 @@ EveryPattern = (b : ℕ) → b < 2 ^ 32 → temperature_of (Degrees (ieee.of_bit
 
 -- both zeros and every subnormal give 0
 abbrev pub SubnormalsGiveZero : Type 0
-SubnormalsGiveZero = (b : ℕ) → exponent_of b ≡ 0 → of_pattern b ≡ Reading (hundredths (pos 0))
+SubnormalsGiveZero = (b : ℕ) → exponent_of b ≡ 0 → of_pattern b ≡ Some (hundredths (pos 0))
 
 -- what a call answers
 abbrev pub answer_at : Config → Controller → Readings → Call → Answer
@@ -148,6 +146,6 @@ answer_at cfg r d k = answer_with (step cfg r d k) (removed cfg r d k)
 -- with LTNE the reported temperature is null, and every call answers alike whatever the probe delivers
 abbrev pub ProbeNotExposed : Type 0
 ProbeNotExposed =
-    (cfg : Config) → local_temperature_not_exposed cfg ≡ true → (p q : Probe) (before after : ℕ) (hook node : Second) (clock : ℕ)
-    → (reported_temperature cfg (readings_of p before after hook node clock).temperature ≡ NoReading)
+    (cfg : Config) → local_temperature_not_exposed cfg ≡ true → (p q : Probe) (before after : ℕ) (hook node : Option ℕ) (clock : ℕ)
+    → (reported_temperature cfg (readings_of p before after hook node clock).temperature ≡ None)
     × ((r : Controller) (k : Call) → answer_at cfg r (readings_of p before after hook node clock) k ≡ answer_at cfg r (readings_of q before after hook node clock) k)

@@ -2,13 +2,12 @@
 ghost use Rattle.std.specs.Prelude.{◌≡◌, ◌<◌, ◌≤◌, ◌*◌, ◌^◌, ◌-◌};
 ghost use Rattle.probes.specs.Probes.{half_to_even, significand, signed, in_range, of_pattern, of_degrees};
 
-use records::Temperature;
 use units::Hundredths;
 
 // The weight of the sign, and of the digit before the fraction, behind which the exponent begins.
-const SIGN: u32 = 2147483648;
+const SIGN: u32 = 1 << 31;
 
-const LEADING_DIGIT: u32 = 8388608;
+const LEADING_DIGIT: u32 = 1 << 23;
 
 // With a lower exponent the hundredths are below a half, with a higher one no fraction is left and the number is out of range.
 const LOWEST_EXPONENT: u32 = 119;
@@ -52,41 +51,41 @@ fn magnitude(exponent: u32, fraction: u32) -> u32
 }
 
 // The range is tested on the rounded number.
-#[tactic(auto, using(crate::proofs::Patterns::inside, crate::proofs::Patterns::inside_below, crate::proofs::Patterns::outside_below, crate::proofs::Patterns::outside_above))]
-fn in_range(negative: bool, n: u32) -> Temperature
+#[tactic(auto, using(crate::proofs::Patterns::inside, crate::proofs::Patterns::outside_below, crate::proofs::Patterns::outside_above))]
+fn in_range(negative: bool, n: u32) -> Option<Hundredths>
     ensures { result ≡ in_range (signed negative n) }
 {
-    if negative {
-        if MOST_BELOW_ZERO < n {
-            return Temperature::NoReading;
-        }
-        return Temperature::Reading(Hundredths(0 - (n as i16)));
+    let most = if negative {
+        MOST_BELOW_ZERO
+    } else {
+        MOST_ABOVE_ZERO
+    };
+    if most < n {
+        return None;
     }
-    if MOST_ABOVE_ZERO < n {
-        return Temperature::NoReading;
-    }
-    Temperature::Reading(Hundredths(n as i16))
+    let size = n as i16;
+    Some(Hundredths(if negative { -size } else { size }))
 }
 
 // Exponent 255, an infinity or a NaN, is out of range too.
 #[tactic(auto, using(crate::proofs::Patterns::by_size, crate::proofs::Patterns::too_large))]
-fn of_pattern(bits: u32) -> Temperature
+fn of_pattern(bits: u32) -> Option<Hundredths>
     ensures { result ≡ of_pattern bits }
 {
     let exponent = bits % SIGN / LEADING_DIGIT;
     if HIGHEST_EXPONENT < exponent {
-        return Temperature::NoReading;
+        return None;
     }
     in_range(SIGN <= bits, magnitude(exponent, bits % LEADING_DIGIT))
 }
 
 // A NaN has no bits to look at.
-#[tactic(auto, using(crate::proofs::Patterns::differs, crate::proofs::Patterns::has_bits, crate::proofs::Patterns::by_bits))]
-pub(crate) fn of_degrees(x: f32) -> Temperature
+#[tactic(auto, using(crate::proofs::Patterns::of_nan, crate::proofs::Patterns::not_nan))]
+pub(crate) fn of_degrees(x: f32) -> Option<Hundredths>
     ensures { result ≡ of_degrees x }
 {
-    if x != x {
-        return Temperature::NoReading;
+    if x.is_nan() {
+        return None;
     }
-    of_pattern(f32::to_bits(x))
+    of_pattern(x.to_bits())
 }

@@ -6,35 +6,35 @@ mod degrees;
 ghost use Rattle.std.specs.Prelude.{◌≡◌};
 ghost use Rattle.probes.specs.Probes.{temperature_of, readings_of};
 
-use records::{Probe, Readings, Second, Temperature};
+use records::{Probe, Readings};
+use units::Hundredths;
 
-pub fn temperature_of(probe: Probe) -> Temperature
+pub fn temperature_of(probe: Probe) -> Option<Hundredths>
     ensures { result ≡ temperature_of probe }
 {
     match probe {
-        Probe::Absent => Temperature::NoReading,
-        Probe::Fault(_) => Temperature::NoReading,
+        Probe::Absent | Probe::Fault(_) => None,
         Probe::Degrees(x) => degrees::of_degrees(x),
     }
 }
 
-// The readings of a call, their temperature from a probe.
+// The readings of a call, their temperature from a probe. All other fields are parameters, as in the definition.
 pub fn readings_of(
     probe: Probe,
     relaysbefore: u16,
     relaysafter: u16,
-    hook: Second,
-    node: Second,
+    hook: Option<u32>,
+    node: Option<u32>,
     clock: u64,
 ) -> Readings
     ensures { result ≡ readings_of probe relaysbefore relaysafter hook node clock }
 {
     Readings {
-        relaysbefore: relaysbefore,
-        relaysafter: relaysafter,
+        relaysbefore,
+        relaysafter,
         temperature: temperature_of(probe),
-        hook: hook,
-        node: node,
-        clock: clock,
+        hook,
+        node,
+        clock,
     }
 }

@@ -9,8 +9,8 @@ use lib.IntN.{pos}
 use lib.ListN.{length, take, get_or}
 use lib.Seq.{take-suc}
 use Rattle.integers.specs.Linear.{pos_part}
-use Rattle.model.specs.Answers.{Outcome}
-use Rattle.model.specs.Removed.{removed}
+use Rattle.model.specs.Answers.{Outcome, answer_with}
+use Rattle.model.specs.Removed.{opening_removed, removed}
 use Rattle.model.specs.Everything.{everything}
 use Rattle.model.specs.Sound.{sound}
 use Rattle.model.specs.Plant.{plant, plant_settings, no_readings, ten_calls, Line, line, lines_from}
@@ -21,6 +21,11 @@ use Rattle.records.specs.declared.Answer.{Answer}
 use Rattle.records.specs.declared.Call.{Call}
 use Rattle.records.specs.declared.Call.TheVariants.{Sweep}
 use Rattle.ten_calls.specs.Lines.{AnswerInTable, called, outcome_after, removed_after, answer_after}
+
+-- the opening's answer is that of no call after it
+pub opens : (a : Answer) → a ≡ answer_with (opened plant (plant_settings 2000 2250)) (opening_removed plant (plant_settings 2000 2250)) → a ≡ answer_after 0
+unfolding outcome_after
+opens a e = e
 
 pub one_more : (i : ℕ) → i < 9 → outcome_after (i + 1) ≡ called (outcome_after i) (get_or ten_calls i Sweep)
 unfolding outcome_after
@@ -59,3 +64,7 @@ in_table n i a e h f =
     let m = lines_have n 1 i (opened plant (plant_settings 2000 2250)) ten_calls e h in
     let t = whole_in (subst (λ (ls : List Line). Memᴰ (line n (outcome_after i)) ls) acceptance.0 m) in
     subst (λ (x : Answer). AnswerInTable n x) (sym f) t
+
+-- the opening's line is the first
+pub first_in_table : (a : Answer) → a ≡ answer_with (opened plant (plant_settings 2000 2250)) (opening_removed plant (plant_settings 2000 2250)) → AnswerInTable 1 a
+first_in_table a e = in_table 1 0 a (omega arith) (omega arith) (opens a e)

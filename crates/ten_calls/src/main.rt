@@ -21,7 +21,7 @@ fn print_answer(rt: &impl Print, n: u64, a: Answer) -> io::Result<()>
     print_line(
         rt,
         n,
-        a.number as u64,
+        a.number.into(),
         plant::whole(s.heating),
         plant::whole(s.cooling),
     )
@@ -34,11 +34,15 @@ fn call(i: u64, before: Answer) -> Answer
     requires { (i < 9) × (before ≡ answer_after i) }
     ensures { result ≡ answer_after (i + 1) }
 {
-    let r = before.rec;
-    controller::step_sound(plant::plant(), r, plant::no_readings(), plant::call_at(i))
+    controller::step_sound(
+        plant::plant(),
+        before.rec,
+        plant::no_readings(),
+        plant::call_at(i),
+    )
 }
 
-#[tactic(auto, using(crate::proofs::Lines::in_table))]
+#[tactic(auto, using(crate::proofs::Lines::in_table, crate::proofs::Lines::opens, crate::proofs::Lines::first_in_table))]
 fn main(rt: HostRuntime) -> io::Result<()> {
     let mut a = opening::open(plant::plant(), plant::settings());
     print_answer(&rt, 1, a)?;
