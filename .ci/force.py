@@ -3,9 +3,9 @@
 
 A row: the edit's title (its first line), the statement that fails and the place where the prover refused it. That is the first error that rt tells.
 An edit with a line `-- law: NAME, FILE` is refused at several places, of which rt tells the first alone; so it is checked once more, in a copy, and the row has
-the first error in FILE, the proof of that law. Some 130 checks: a quarter of an hour.
+the first error in FILE, the proof of that law. Some 130 checks, each core with a copy of its own.
 """
-import glob, os, re, shutil, subprocess, sys, tempfile
+import concurrent.futures, glob, os, queue, re, shutil, subprocess, sys, tempfile
 
 MARK = '<!-- the rest is written by .ci/force.py -->\n'
 TOLD = re.compile(r'^(?:rt: )?must-fail (\w+)/(\S+)\.edit: refused, as it must be: (?:note: )?(?:\./)?((?:src|specs|proofs)/[^:\s]+):(\d+):\d+: (.*)$', re.M)
@@ -61,13 +61,14 @@ def function_at(crate, file, line):
     after = [m[1] for m in map(FUNCTION.match, text[line - 1:]) if m]
     name = after[0] if text[line - 1].lstrip().startswith('#[') or not before else before[-1]
     module = file[len('src/'):-len('.rt')]
-    opened = [i for i, l in enumerate(text[:line]) if l.startswith('impl ')]
+    opened = [i for i, l in enumerate(text[:line]) if l.startswith('impl')]
     method = opened and '}' not in text[opened[-1]:line]
-    of = [re.match(r'impl (\w+)', text[opened[-1]])[1]] if method else []
+    header = re.match(r'impl(?:<.*?>)? (.*?)(?: for (.*?))?(?: where .*)? \{', text[opened[-1]]) if method else None
+    of = ['<%s as %s>' % (header[2], header[1]) if header[2] else header[1]] if method else []
     return '::'.join([crate] + ([] if module in ('lib', 'main') else module.split('/')) + of + [name])
 
 
-def row(told, top, crate, path):
+def row(told, tops, crate, path):
     name = os.path.basename(path)[:-len('.edit')]
     lines = read(path).split('\n')
     title = lines[0].lstrip('- ').strip()
@@ -78,7 +79,11 @@ def row(told, top, crate, path):
     place = '%s:%s' % (file, line)
     if law:
         statement, home = law.split(', proofs/')
-        place = law_place(top, crate, path, 'proofs/' + home + '.antt')
+        top = tops.get()
+        try:
+            place = law_place(top, crate, path, 'proofs/' + home + '.antt')
+        finally:
+            tops.put(top)
     else:
         m = re.match(r'proofs/(.*)/(?:Answers|Invariants|Proof)\.antt', file)
         declared = re.match(r'error: `([^`]+)`', text)
@@ -92,16 +97,22 @@ def main():
     told = {(m[1], m[2]): (m[3], m[4], m[5]) for m in TOLD.finditer(read(sys.argv[1]))}
     os.chdir(os.path.join(os.path.dirname(os.path.abspath(__file__)), '..'))
     out = [read('docs/FORCE.md').split(MARK)[0].rstrip('\n') + '\n\n' + MARK]
-    with tempfile.TemporaryDirectory() as room:
-        top = os.path.join(room, 'top')
-        shutil.copytree('crates', os.path.join(top, 'crates'), ignore=shutil.ignore_patterns('out'))
-        shutil.copy('crates.txt', top)
+    with tempfile.TemporaryDirectory() as room, concurrent.futures.ThreadPoolExecutor(os.cpu_count()) as pool:
+        tops = queue.Queue()
+        for core in range(os.cpu_count()):
+            top = os.path.join(room, str(core))
+            shutil.copytree('crates', os.path.join(top, 'crates'), ignore=shutil.ignore_patterns('out'))
+            shutil.copy('crates.txt', top)
+            tops.put(top)
+        tables = []
         for line in read('crates.txt').split('\n'):
             crate = re.match(r'\w*', line)[0]
             edits = sorted(glob.glob('crates/%s/must-fail/*.edit' % crate)) if crate else []
             if edits:
-                rows = '\n'.join(row(told, top, crate, e) for e in edits)
-                out.append('\n## %s\n\n| wrong answer | statement that fails | refused at |\n|---|---|---|\n%s\n' % (crate, rows))
+                tables.append((crate, [pool.submit(row, told, tops, crate, e) for e in edits]))
+        for crate, rows in tables:
+            table = '\n'.join(r.result() for r in rows)
+            out.append('\n## %s\n\n| wrong answer | statement that fails | refused at |\n|---|---|---|\n%s\n' % (crate, table))
     with open('docs/FORCE.md', 'w', encoding='utf-8') as f:
         f.write(''.join(out))
 

@@ -168,7 +168,7 @@ def point6(fs):
                 yield n, t.count('\n', 0, m.start()) + 1, 'struct %s: lengths of arrays that are elsewhere' % m.group(1)
         for m in re.finditer(r'(?m)^pub type (\w+) = \[u8; \d+\];', t):
             yield n, t.count('\n', 0, m.start()) + 1, 'type %s: an array whose length is elsewhere' % m.group(1)
-        for m in re.finditer(r'(?m)^(?:pub )?const (\w+): \[u8; \d+\] = \*b', t):
+        for m in re.finditer(r'(?m)^(?:pub(?:\(crate\))? )?(?:const|static) (\w+): \[u8; \d+\] = \*b', t):
             yield n, t.count('\n', 0, m.start()) + 1, 'const %s: a table of fixed rows in one array' % m.group(1)
         for line, name, head, body in functions(t):
             if re.search(r'while row|while i', body) and re.search(r'return (row|false)', body):
