@@ -3,12 +3,17 @@ use Rattle.std.specs.Prelude.{◌≡◌, refl, Bool, true, false, cond, ◌+◌,
 use Rattle.std.specs.Int.Signed.{lt_z}
 use Rattle.integers.specs.Linear.{pos_part, neg_part}
 use Rattle.integers.proofs.Linear.{linear}
+use Rattle.integers.specs.Widths.{Bounded}
 use Rattle.integers.specs.Clamp.{max_z, min_z, clamp_z}
 
 -- a fact about what a test picks, from its two cases
 pub by_test {ℓ} : {X : Type 0} (P : X → Type ℓ) (b : Bool) (x y : X) → (b ≡ true → P x) → (b ≡ false → P y) → P (cond b x y)
 by_test P true x y f g = f refl
 by_test P false x y f g = g refl
+
+pub max_bounded : {a b : ℤ} → Bounded a → Bounded b → Bounded (max_z a b)
+unfolding max_z
+max_bounded {a} {b} f g = by_test Bounded (lt_z a b) b a (λ e. g) (λ e. f)
 
 pub max_parts : (a b : ℤ) → pos_part (max_z a b) + neg_part a + neg_part b ≡ max (pos_part a + neg_part b) (pos_part b + neg_part a) + neg_part (max_z a b)
 unfolding max_z

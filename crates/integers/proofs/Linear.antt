@@ -4,7 +4,7 @@
 use Rattle.std.specs.Prelude.{◌≡◌, refl, ◌≢◌, Bool, true, false, not, cond, ℕ, zero, suc, ◌+◌, ◌-◌, ◌*◌, ◌^◌, ◌≤◌, ◌<◌, max, ℤ, pos, negsuc, neg_ℤ, ◌+ℤ◌, ◌-ℤ◌, ◌*ℤ◌, ◌≤ℤ◌, ◌<ℤ◌, T, ltb}
 use Rattle.std.proofs.Common.{sym, ap, subst, arith, eqb→eq, ltb→lt, nltb→le, leb→le, le→leb, lt→ltb}
 use Rattle.std.proofs.Math.IntN.{sub_ℕ}
-use Rattle.std.specs.Int.Signed.{le_z, lt_z}
+use Rattle.std.specs.Int.Signed.{mag, le_z, lt_z}
 use Rattle.std.proofs.Math.Dec.{eqb_refl}
 use Rattle.std.specs.Int.{Width}
 use mir.Val.{SFits, hbits}
@@ -163,7 +163,11 @@ pub scale_parts : (x : ℤ) (k : ℕ) → pos_part (x *ℤ pos k) + neg_part x *
 scale_parts (pos a) k = omega arith
 scale_parts (negsuc a) k = omega (arith, neg_parts (pos (suc a * k)))
 
--- a range, from the parts
+-- ranges: `omega` reads the bound on the magnitude in an `SFits`; this carries it to the parts
+pub range_parts : (z : ℤ) → (pos_part z ≤ mag z) × (neg_part z ≤ suc (mag z))
+range_parts (pos a) = omega arith
+range_parts (negsuc a) = omega arith
+
 pub fits_asked : (w : Width) (z : ℤ) → max (suc (pos_part z) - neg_part z) (neg_part z - pos_part z) ≤ 2 ^ hbits w → SFits w z
 fits_asked w (pos a) h = record { sfits = omega arith }
 fits_asked w (negsuc a) h = record { sfits = omega arith }

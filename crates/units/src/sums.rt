@@ -17,7 +17,7 @@ impl From<Hundredths> for Sum {
 
     ghost from_gives = { λ a s. s.wide ≡ widened a };
 
-    #[tactic(auto, unfolding(crate::specs::Units::widened))]
+    #[tactic(auto, using(integers::proofs::Widths::half_bounded), unfolding(crate::specs::Units::widened))]
     fn from(a: Hundredths) -> Sum {
         Sum { wide: a.into() }
     }
@@ -30,7 +30,7 @@ impl Add<Hundredths> for Hundredths {
 
     ghost add_gives = { λ a b s. s.wide ≡ plus a b };
 
-    #[tactic(auto, unfolding(crate::specs::Units::plus))]
+    #[tactic(auto, using(integers::proofs::Widths::sum_in_32, integers::proofs::Widths::sum_bounded), unfolding(crate::specs::Units::plus))]
     fn add(self, b: Hundredths) -> Sum {
         let x = i32::from(self.0);
         let y = i32::from(b.0);
@@ -45,7 +45,7 @@ impl Sub<Hundredths> for Hundredths {
 
     ghost sub_gives = { λ a b s. s.wide ≡ minus a b };
 
-    #[tactic(auto, unfolding(crate::specs::Units::minus))]
+    #[tactic(auto, using(integers::proofs::Widths::diff_in_32, integers::proofs::Widths::diff_bounded), unfolding(crate::specs::Units::minus))]
     fn sub(self, b: Hundredths) -> Sum {
         let x = i32::from(self.0);
         let y = i32::from(b.0);
@@ -61,7 +61,7 @@ impl Sub<Hundredths> for Sum {
 
     ghost sub_gives = { λ s a w. w ≡ asked_less_given s.wide a };
 
-    #[tactic(auto, unfolding(crate::specs::Units::asked_less_given))]
+    #[tactic(auto, using(integers::proofs::Widths::rest_in_32), unfolding(crate::specs::Units::asked_less_given))]
     fn sub(self, a: Hundredths) -> Wide {
         let asked = self.wide.0;
         let given = i32::from(a.0);
