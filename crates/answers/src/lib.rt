@@ -3,7 +3,8 @@
 
 ghost use Rattle.std.specs.Prelude.{◌≡◌};
 ghost use Rattle.records.specs.Refusals.{number};
-ghost use Rattle.model.specs.Answers.{only_if, push as pushed, push_all, emit as emitted, answer, quiet};
+ghost use Rattle.model.specs.Answers.{only_if, push as pushed, push_all, answer, quiet};
+ghost use Rattle.records.specs.FixedLists.{pushed as slotted};
 ghost use Rattle.model.specs.Served.{noticed, emits_any};
 ghost use Rattle.model.specs.Orders.{order_of, ask_sweep};
 
@@ -13,18 +14,19 @@ use records::{
 };
 
 // A full list is left alone. No call gives more than it holds, so nothing is lost: law NothingLost of model.
-#[tactic(auto, unfolding(model::specs::Answers::push))]
+#[tactic(auto, unfolding(model::specs::Answers::push, records::specs::FixedLists::pushed))]
 pub fn push(n: Notices, code: u16) -> Notices
     ensures { result ≡ pushed n code }
 {
     n.push(code)
 }
 
-#[tactic(auto, unfolding(model::specs::Answers::emit))]
-pub fn emit(es: Events, e: Event) -> Events
-    ensures { result ≡ emitted es e }
+// An event, or a slot with none.
+#[tactic(auto, unfolding(records::specs::FixedLists::pushed))]
+pub fn emit(es: Events, e: Option<Event>) -> Events
+    ensures { result ≡ slotted 6 es e }
 {
-    es.push(Some(e))
+    es.push(e)
 }
 
 // A notice, if its attribute is served.

@@ -9,7 +9,6 @@ use borrow.Author.Tests.{lt-ltb}
 use lib.ListN.{length, take, set, length-set, length-replicate}
 use lib.Seq.{take-suc-set}
 use Rattle.records.specs.FixedLists.{pushed}
-use Rattle.records.specs.declared.fixed_list.FixedList.{FixedList}
 use Rattle.records.specs.Records.{no_notices, no_events}
 use Rattle.model.specs.Answers.{fold_left, push, push_all, packed, emit, emit_all, packed_events}
 use Rattle.records.specs.declared.Event.{Event}
@@ -39,24 +38,18 @@ pub emit_one : (es : Events) (e : Event) → emit es e ≡ emit_all es (e ∷ []
 unfolding emit_all
 emit_one es e = refl
 
--- the first len items of what is pushed onto a list are those before it, and then it, where there is room
-module _ {T B : Type 0} (most : ℕ) (item : B → T) where
-  abbrev add : FixedList T most → B → FixedList T most
-  add l b = pushed most l (item b)
-
-  fills : (l : FixedList T most) (b : B) → l.len < most → ((add l b).items ≡ set l.items l.len (item b)) × ((add l b).len ≡ l.len + 1)
-  unfolding pushed
-  fills l b h = (simp (lt-ltb _ _ h), simp (lt-ltb _ _ h))
-
-  filled : (l : FixedList T most) (bs : List B) → length l.items ≡ most → l.len + length bs ≤ most → take (fold_left add l bs).len (fold_left add l bs).items ≡ take l.len l.items ++ map item bs
-  filled l [] e h = sym (append-nil (take l.len l.items))
-  filled l (b ∷ bs) e h =
-      let p : l.len < length l.items = omega arith in
-      let q : l.len < most = omega arith in
-      let f = fills l b q in
-      let i : length (add l b).items ≡ most = ap length f.0 ∙ length-set l.items l.len (item b) ∙ e in
-      let g : take (add l b).len (add l b).items ≡ take l.len l.items ++ (item b ∷ []) = rw (f.0, f.1, add-one) (take-suc-set l.items l.len (item b) p) in
-      filled (add l b) bs i (omega (arith, f.1)) ∙ ap (λ (x : List T). x ++ map item bs) g ∙ append_assoc (take l.len l.items) (item b ∷ []) (map item bs)
+-- an array of a fixed size with a length, of items that wrap what is pushed
+module _ {S A B : Type 0} (items : S → List A) (len : S → ℕ) (wrap : B → A) (room : ℕ) (add : S → B → S)
+    (fills : (s : S) (b : B) → len s < room → (items (add s b) ≡ set (items s) (len s) (wrap b)) × (len (add s b) ≡ len s + 1)) where
+  filled : (s : S) (l : List B) → length (items s) ≡ room → len s + length l ≤ room → take (len (fold_left add s l)) (items (fold_left add s l)) ≡ take (len s) (items s) ++ map wrap l
+  filled s [] e h = sym (append-nil (take (len s) (items s)))
+  filled s (b ∷ bs) e h =
+      let p : len s < length (items s) = omega arith in
+      let q : len s < room = omega arith in
+      let f = fills s b q in
+      let i : length (items (add s b)) ≡ room = ap length f.0 ∙ length-set (items s) (len s) (wrap b) ∙ e in
+      let g : take (len (add s b)) (items (add s b)) ≡ take (len s) (items s) ++ (wrap b ∷ []) = rw (f.0, f.1, add-one) (take-suc-set (items s) (len s) (wrap b) p) in
+      filled (add s b) bs i (omega (arith, f.1)) ∙ ap (λ (x : List A). x ++ map wrap bs) g ∙ append_assoc (take (len s) (items s)) (wrap b ∷ []) (map wrap bs)
 
 map_self : (l : List ℕ) → map (λ (c : ℕ). c) l ≡ l
 map_self [] = refl
@@ -64,10 +57,18 @@ map_self (c ∷ cs) = ap (λ (l : List ℕ). c ∷ l) (map_self cs)
 
 -- the first len codes of a packed list are the list, where it has at most 13
 pub packed_codes : (l : List ℕ) → length l ≤ 13 → take (packed l).len (packed l).items ≡ l
-unfolding packed push_all push
-packed_codes l h = filled 13 (λ (c : ℕ). c) no_notices l (length-replicate {A = ℕ} 13 0) (omega arith) ∙ map_self l
+unfolding packed push_all push pushed
+packed_codes l h =
+    filled (λ (n : Notices). n.items) (λ (n : Notices). n.len) (λ (c : ℕ). c) 13 push fills no_notices l (length-replicate {A = ℕ} 13 0) (omega arith) ∙ map_self l
+  where
+    fills : (n : Notices) (c : ℕ) → n.len < 13 → ((push n c).items ≡ set n.items n.len c) × ((push n c).len ≡ n.len + 1)
+    fills n c h = (simp (lt-ltb _ _ h), simp (lt-ltb _ _ h))
 
 -- and of packed events likewise, where there are at most 6
 pub packed_items : (l : List Event) → length l ≤ 6 → take (packed_events l).len (packed_events l).items ≡ map Some l
-unfolding packed_events emit_all emit
-packed_items l h = filled 6 (λ (e : Event). Some e) no_events l (length-replicate {A = Option Event} 6 None) (omega arith)
+unfolding packed_events emit_all emit pushed
+packed_items l h =
+    filled (λ (es : Events). es.items) (λ (es : Events). es.len) (λ (e : Event). Some e) 6 emit fills no_events l (length-replicate {A = Option Event} 6 None) (omega arith)
+  where
+    fills : (es : Events) (e : Event) → es.len < 6 → ((emit es e).items ≡ set es.items es.len (Some e)) × ((emit es e).len ≡ es.len + 1)
+    fills es e h = (simp (lt-ltb _ _ h), simp (lt-ltb _ _ h))

@@ -48,18 +48,19 @@ pub fn emitted_events(
     }
 }
 
-#[tactic(auto, using(model::proofs::Packing::emit_none, model::proofs::Packing::emit_one), unfolding(model::specs::Answers::only_if))]
+#[tactic(auto, using(model::proofs::Packing::emit_none, model::proofs::Packing::emit_one), unfolding(model::specs::Answers::only_if, model::specs::Answers::emit))]
 fn emit_if(es: Events, t: bool, e: Event) -> Events
     ensures { result ≡ emit_all es (only_if t (e ∷ [])) }
 {
     if t {
-        return answers::emit(es, e);
+        return answers::emit(es, Some(e));
     }
     es
 }
 
-// In the order mode, temperature, cooling, heating, relays, running mode.
+// In the order mode, temperature, cooling, heating, relays, running mode. Inlined, as in `sweep_take_events`.
 #[tactic(auto, using(model::proofs::Packing::emit_all_append), unfolding(model::specs::Sweep::events_of, model::specs::Answers::packed_events))]
+#[inline(always)]
 pub fn events_of(cfg: Config, old: Snapshot, new: Snapshot, last: Option<u64>, now: u64) -> Events
     ensures { result ≡ packed_events (spec.events_of cfg old new last now) }
 {
