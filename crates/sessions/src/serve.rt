@@ -13,8 +13,7 @@ impl Session {
         let a = replies::answer_to(self.config, self.rec, line);
         self.config = replies::config_after(self.config, line);
         self.rec = a.rec;
-        self.line = self.line.saturating_add(1);
-        self.held.filled = 0;
+        self.next_line();
         // The longest answer fits after this.
         if 63200 < self.page.filled {
             self.flush(output);

@@ -13,7 +13,7 @@ use units::{Hundredths, Tenths};
 pub type Held = Buffer<251>;
 
 // `line` lines are read. Of the next one `held` is there, and `page` is answered and not yet written.
-#[derive(Drop)]
+#[derive(Clone, Copy)]
 pub struct Session {
     pub config: Config,
     pub rec: Controller,
@@ -46,6 +46,15 @@ impl Session {
             filled: self.page.filled,
             writable: self.writable,
         }
+    }
+
+    // The next line begins. What is answered stays on the page.
+    pub(crate) fn next_line(&mut self)
+        ensures next { (self.new.held.filled ≡ 0) × (self.new.page ≡ self.old.page) }
+        ensures kept { (self.new.config ≡ self.old.config) × (self.new.rec ≡ self.old.rec) }
+    {
+        self.line = self.line.saturating_add(1);
+        self.held.filled = 0;
     }
 
     // What is on the page goes out.

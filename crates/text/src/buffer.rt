@@ -2,7 +2,7 @@
 ghost use Rattle.std.specs.Prelude.{◌≤◌};
 
 // The first `filled` bytes are written.
-#[derive(Drop)]
+#[derive(Clone, Copy)]
 pub struct Buffer<const MOST: usize> {
     pub bytes: [u8; MOST],
     pub filled: usize,

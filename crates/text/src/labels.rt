@@ -1,5 +1,5 @@
 // The labels of the console's lines.
-ghost use Rattle.std.specs.Prelude.{◌≤◌};
+ghost use Rattle.std.specs.Prelude.{◌≡◌, ◌≤◌};
 
 // A label has at most so many bytes.
 pub(crate) const LONGEST: usize = 10;
@@ -82,11 +82,23 @@ pub(crate) static LABELS: [u8; 340] = *b"\
     \n~~~~~~~~~\
 ";
 
-impl Label {
-    // Where a label's row begins.
-    pub(crate) fn start(self) -> usize
-        ensures { result ≤ 330 }
-    {
-        self as usize * LONGEST
+impl From<Label> for usize {
+    ghost use Rattle.text.specs.Labels.{number};
+
+    ghost from_gives = { λ l n. n ≡ number l };
+
+    #[tactic(auto, unfolding(crate::specs::Labels::number))]
+    fn from(label: Label) -> usize {
+        label as usize
     }
+}
+
+// Where a label's row begins: the empty one's, where no label has the number.
+pub(crate) fn start(i: usize) -> usize
+    ensures { result ≤ 330 }
+{
+    if i < 34 {
+        return i * LONGEST;
+    }
+    0
 }

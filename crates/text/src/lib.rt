@@ -20,11 +20,11 @@ pub use values::Value;
 pub type Page = Buffer<65536>;
 
 impl Page {
-    fn label(&mut self, label: Label)
+    fn label(&mut self, number: usize)
         requires { Room self.old 10 }
         ensures { Within self.old self.new 10 }
     {
-        let from = label.start();
+        let from = labels::start(number);
         let entry = &labels::LABELS[from..from + labels::LONGEST];
         let n = entry
             .iter()
@@ -73,11 +73,12 @@ impl Page {
         }
     }
 
-    pub fn field<V: Into<Value>>(&mut self, label: Label, value: V)
+    // A label or its number; past the last number there is none.
+    pub fn field<L: Into<usize>, V: Into<Value>>(&mut self, label: L, value: V)
         requires { Room self.old 32 }
         ensures { Within self.old self.new 32 }
     {
-        self.label(label);
+        self.label(label.into());
         self.value(value.into());
     }
 }
