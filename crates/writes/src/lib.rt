@@ -48,7 +48,7 @@ fn has_any_moved(s: Settings, t: Settings, u: Settings) -> bool
         || (t.heating != u.heating || t.cooling != u.cooling)
 }
 
-#[tactic(auto, unfolding(model::specs::Plans::performed, model::specs::Plans::moved, model::specs::Answers::packed_events, model::specs::Answers::emit_all))]
+#[tactic(auto, using(crate::proofs::Performed::performed_answer), unfolding(model::specs::Plans::performed, model::specs::Plans::moved, model::specs::Answers::packed_events, model::specs::Answers::emit_all))]
 fn perform(cfg: Config, d: Readings, r: Controller, p: Plan) -> Answer
     ensures { result ≡ answer_with (spec.performed cfg d r p) p.removed }
 {
