@@ -1,5 +1,5 @@
 // The load: calls on one record, a sweep after every 16, and what their answers sum up to.
-ghost use Rattle.std.specs.Prelude.{◌≡◌, ◌<◌, ◌≤◌};
+ghost use Rattle.std.specs.Prelude.{◌≡◌, ◌+◌, ◌%◌, ◌<◌, ◌≤◌};
 ghost use Rattle.load.specs.Totals.{counted, chosen_of, turned, started_of, load_of, turns_of, TotalsBounded};
 
 use crate::draws;
@@ -70,15 +70,27 @@ fn start(seed: u32) -> Load
     }
 }
 
-// In rounds of 17 turns, from 0: 16 calls and their sweep.
+// The place in a round of 17 turns, from 0: 16 calls and their sweep.
+fn next_place(place: u8) -> u8
+    requires { place < 17 }
+    ensures { result ≡ (place + 1) % 17 }
+{
+    if place == 16 {
+        return 0;
+    }
+    place + 1
+}
+
 #[tactic(auto, using(crate::proofs::Bounds::totals_bounded), unfolding(crate::specs::Totals::load_of, crate::specs::Totals::is_sweep))]
 pub(crate) fn run(count: u64, seed: u32) -> Load
     requires { count < 1000000000000000 }
     ensures { result ≡ load_of seed (turns_of count) }
 {
     let mut l = start(seed);
-    for t in 0..count + count / 16 {
-        l = turn(l, t % 17 == 16);
+    let mut place: u8 = 0;
+    for _ in 0..count + count / 16 {
+        l = turn(l, place == 16);
+        place = next_place(place);
     }
     l
 }

@@ -11,7 +11,7 @@ pub table_from_codes : TableFromCodes
 unfolding bit_of
 table_from_codes = refl
 
-row_from_code : (i : ℕ) → row_of (get_or notice_codes i 0) ≡ get_or notice_table i (notice_row 0 0)
+pub row_from_code : (i : ℕ) → row_of (get_or notice_codes i 0) ≡ get_or notice_table i (notice_row 0 0)
 unfolding bit_of
 row_from_code i = sym (get_or-map row_of notice_codes i 0) ∙ ap (λ (ws : List NoticeRow). get_or ws i (notice_row 0 0)) table_from_codes
 

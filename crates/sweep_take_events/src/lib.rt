@@ -15,7 +15,9 @@ pub struct Taken {
     pub events: Events,
 }
 
+// Inlined, here and below: where it stands apart, the record is copied and nothing is known of the configuration.
 #[tactic(auto, using(model::proofs::Packing::emit_none), unfolding(model::specs::Answers::packed_events))]
+#[inline(always)]
 fn take_since(cfg: Config, d: Readings, r: Controller, old: Snapshot) -> Taken
     ensures { result ≡ packed_taken (spec.taken_from cfg d r (Some old)) }
 {
@@ -38,6 +40,7 @@ fn take_since(cfg: Config, d: Readings, r: Controller, old: Snapshot) -> Taken
 
 // With no snapshot yet it starts, and gives no events.
 #[tactic(auto, using(model::proofs::Packing::emit_none), unfolding(model::specs::Sweep::take_events, model::specs::Answers::packed_events))]
+#[inline(always)]
 pub fn take_events(cfg: Config, d: Readings, r: Controller) -> Taken
     ensures { result ≡ packed_taken (spec.take_events cfg d r) }
 {
